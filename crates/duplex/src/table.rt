@@ -3,7 +3,7 @@ ghost use mathlib.Core.Path.{_≡_};
 ghost use Rattle.duplex.specs.State.{positions as powers-of-176};
 
 // Position j is 176 to the power j modulo 257.
-static POSITIONS: [u32; 33] = [
+const POSITIONS: [u32; 33] = [
     1,
     176,
     136,
