@@ -1,0 +1,9 @@
+// The interpreter of a bench line: it reads a command, carries it out on a duplex object and gives the bytes to print.
+mod buffer;
+mod reading;
+mod terms;
+
+pub use buffer::Buffer;
+pub use reading::parse;
+pub use terms::Command;
+pub use terms::Fault;
