@@ -1,0 +1,162 @@
+-- Blocks: the number of a block, the cutting of a string, and that decrypting undoes encrypting.
+use Prim.Native.Nat.{ℕ, suc, _+_, _-_, _*_, _/_, _%_, _<_, _≤_}
+use mathlib.Core.Path.{_≡_, refl, sym, ap, ap₂, _∙_}
+use mathlib.Core.Bool.{Bool, true, false, cond}
+use mathlib.Core.List.{List, [], _∷_, _++_}
+use native.Mathlib.Omega.{arith}
+use borrow.Rule.Slice.PartMut.{putMid}
+use lib.Bits.{bitXor, xor-assoc, xor-self, xor-zero-r}
+use lib.ListN.{length, getD, set, take, drop, replicate}
+use Rattle.std.proofs.shelf.Lists.{append-assoc, append-nil, take-append-drop, drop-drop, drop-all, length-take, length-drop, take-rest, take-more-set, drop-set-lt, drop-more}
+use Rattle.std.proofs.shelf.Parts.{take-putMid, drop-putMid}
+use Rattle.duplex.specs.State.{step, reading}
+use Rattle.duplex.specs.Strings.{padded, blocks, steps, absorbed, masked, text-blocks, cipher-blocks, enciphered, deciphered}
+
+-- The number of a block.
+
+-- eight bytes as a number, lowest first
+abbrev from-bytes : List ℕ → ℕ
+from-bytes b =
+    getD b 0 0 + getD b 1 0 * 256 + getD b 2 0 * 65536 + getD b 3 0 * 16777216 + getD b 4 0 * 4294967296 + getD b 5 0 * 1099511627776
+    + getD b 6 0 * 281474976710656 + getD b 7 0 * 72057594037927936
+
+-- a block, a 1 after it, and zeros
+abbrev pub laid : ℕ → List ℕ → ℕ
+laid n xs = from-bytes (set (xs ++ drop (n - 0) (replicate 8 0)) n 1)
+
+pub laid-padded : (xs : List ℕ) → length xs ≤ 4 → laid (length xs) xs ≡ padded xs
+laid-padded [] h = refl
+laid-padded (a ∷ []) h = omega arith
+laid-padded (a ∷ b ∷ []) h = omega arith
+laid-padded (a ∷ b ∷ c ∷ []) h = omega arith
+laid-padded (a ∷ b ∷ c ∷ d ∷ []) h = omega arith
+laid-padded (a ∷ b ∷ c ∷ d ∷ e ∷ xs) h = absurd (omega arith)
+
+-- The sum of a block and a word.
+
+pub masked-turn : (b : List ℕ) (w i : ℕ) → i < length b
+    → (let s = set b i (bitXor (getD b i 0) (w % 256)) in take (i + 1) s ++ masked (w / 256) (drop (i + 1) s)) ≡ take i b ++ masked w (drop i b)
+masked-turn b w i h =
+    let v = bitXor (getD b i 0) (w % 256) in
+    ap₂ (λ p r. p ++ masked (w / 256) r) (take-more-set b i v h) (drop-set-lt (i + 1) b i v (omega arith))
+    ∙ append-assoc (take i b) (v ∷ []) (masked (w / 256) (drop (i + 1) b))
+    ∙ ap (λ r. take i b ++ masked w r) (sym (drop-more b i 0 h))
+
+length-masked : (w : ℕ) (b : List ℕ) → length (masked w b) ≡ length b
+length-masked w [] = refl
+length-masked w (x ∷ b) = ap suc (length-masked (w / 256) b)
+
+masked-twice : (w : ℕ) (b : List ℕ) → masked w (masked w b) ≡ b
+masked-twice w [] = refl
+masked-twice w (x ∷ b) =
+    ap₂ (λ y ys. y ∷ ys)
+    (xor-assoc x (w % 256) (w % 256) ∙ (ap (bitXor x) (xor-self (w % 256)) ∙ xor-zero-r x))
+    (masked-twice (w / 256) b)
+
+-- The cutting of a string.
+
+blocks-more : (x r : List ℕ) → length x ≡ 4 → blocks (x ++ r) ≡ x ∷ blocks r
+blocks-more [] r h = absurd (omega arith)
+blocks-more (a ∷ []) r h = absurd (omega arith)
+blocks-more (a ∷ b ∷ []) r h = absurd (omega arith)
+blocks-more (a ∷ b ∷ c ∷ []) r h = absurd (omega arith)
+blocks-more (a ∷ b ∷ c ∷ d ∷ []) r h = refl
+blocks-more (a ∷ b ∷ c ∷ d ∷ e ∷ x) r h = absurd (omega arith)
+
+blocks-last : (x : List ℕ) → length x < 4 → blocks x ≡ x ∷ []
+blocks-last [] h = refl
+blocks-last (a ∷ []) h = refl
+blocks-last (a ∷ b ∷ []) h = refl
+blocks-last (a ∷ b ∷ c ∷ []) h = refl
+blocks-last (a ∷ b ∷ c ∷ d ∷ x) h = absurd (omega arith)
+
+absorbed-more : (s x r : List ℕ) → length x ≡ 4 → absorbed s (x ++ r) ≡ absorbed (step s (padded x)) r
+unfolding absorbed
+absorbed-more s x r h = ap (steps s) (blocks-more x r h)
+
+pub absorbed-last : (s x : List ℕ) → length x < 4 → absorbed s x ≡ step s (padded x)
+unfolding absorbed
+absorbed-last s x h = ap (steps s) (blocks-last x h)
+
+-- the turn of a loop that steps with `&xs[0..4]` and goes on with `&xs[4..]`
+pub absorbed-turn : (s xs : List ℕ) → 4 ≤ length xs → absorbed (step s (padded (take 4 xs))) (take (length xs - 4) (drop 4 xs)) ≡ absorbed s xs
+absorbed-turn s xs h =
+    ap (absorbed (step s (padded (take 4 xs)))) (take-rest xs 4)
+    ∙ (sym (absorbed-more s (take 4 xs) (drop 4 xs) (simp length-take (omega arith))) ∙ ap (absorbed s) (take-append-drop 4 xs))
+
+-- Encrypting and decrypting, which differ in the text: what came, or what is given out.
+
+abbrev pub crypted : Bool → List ℕ → List ℕ → List ℕ
+crypted d s t = cond d (deciphered s t) (enciphered s t)
+
+abbrev pub text-of : Bool → List ℕ → List ℕ → List ℕ
+text-of d s t = cond d (deciphered s t) t
+
+-- the state after a block x that becomes m
+abbrev moved : Bool → List ℕ → List ℕ → List ℕ → List ℕ
+moved d s x m = step s (padded (cond d m x))
+
+crypted-more : (d : Bool) (s x r : List ℕ) → length x ≡ 4 → crypted d s (x ++ r) ≡ masked (reading s) x ++ crypted d (moved d s x (masked (reading s) x)) r
+unfolding enciphered deciphered
+crypted-more true s x r h = ap (text-blocks s) (blocks-more x r h)
+crypted-more false s x r h = ap (cipher-blocks s) (blocks-more x r h)
+
+crypted-last : (d : Bool) (s x : List ℕ) → length x < 4 → crypted d s x ≡ masked (reading s) x
+unfolding enciphered deciphered
+crypted-last true s x h = ap (text-blocks s) (blocks-last x h) ∙ append-nil (masked (reading s) x)
+crypted-last false s x h = ap (cipher-blocks s) (blocks-last x h) ∙ append-nil (masked (reading s) x)
+
+moved-more : (d : Bool) (s x r : List ℕ) → length x ≡ 4
+    → absorbed s (text-of d s (x ++ r)) ≡ (let s′ = moved d s x (masked (reading s) x) in absorbed s′ (text-of d s′ r))
+moved-more true s x r h =
+    ap (absorbed s) (crypted-more true s x r h) ∙ absorbed-more s (masked (reading s) x) _ (length-masked (reading s) x ∙ h)
+moved-more false s x r h = absorbed-more s x r h
+
+moved-last : (d : Bool) (s x : List ℕ) → length x < 4 → absorbed s (text-of d s x) ≡ moved d s x (masked (reading s) x)
+moved-last true s x h = ap (absorbed s) (crypted-last true s x h) ∙ absorbed-last s (masked (reading s) x) (simp length-masked h)
+moved-last false s x h = absorbed-last s x h
+
+-- what is left of xs from i on, under the state s, gives the bytes t and the state u
+abbrev pub Leads : Bool → List ℕ → List ℕ → ℕ → List ℕ → List ℕ → Type 0
+Leads d s xs i t u = (take i xs ++ crypted d s (drop i xs) ≡ t) × (absorbed s (text-of d s (drop i xs)) ≡ u)
+
+-- the turn: `&mut xs[i..i + 4]` becomes m
+pub crypt-turn : (d : Bool) (s s′ xs m t u : List ℕ) (i : ℕ) → i + 4 ≤ length xs → Leads d s xs i t u
+    → (let x = take (i + 4 - i) (drop i xs) in m ≡ masked (reading s) x → s′ ≡ moved d s x m → Leads d s′ (putMid i (i + 4 - i) xs m) (i + 4) t u)
+crypt-turn d s s′ xs m t u i h (e, f) em es =
+    let x = take (i + 4 - i) (drop i xs) in
+    let four : i + 4 - i ≡ 4 = omega arith in
+    let long : length x ≡ 4 = simp (length-take, length-drop) (omega arith) in
+    let whole : length m ≡ 4 = ap length em ∙ (length-masked (reading s) x ∙ long) in
+    let cut : drop i xs ≡ x ++ drop (i + 4) xs =
+    sym (take-append-drop (i + 4 - i) (drop i xs)) ∙ ap (λ r. x ++ r) (drop-drop (i + 4 - i) i xs ∙ ap (λ n. drop (i + n) xs) four) in
+    let front = take-putMid i (i + 4 - i) xs m (i + 4) (omega arith) (omega arith) in
+    let back = drop-putMid i (i + 4 - i) xs m (i + 4) (omega arith) (omega arith) (omega arith) in
+    let sum = crypted-more d s x (drop (i + 4) xs) long in
+    let state = moved-more d s x (drop (i + 4) xs) long in
+    let assoc = append-assoc (take i xs) m (crypted d s′ (drop (i + 4) xs)) in
+    (cc, cc)
+
+-- the end: `&mut xs[i..]` becomes m
+pub crypt-end : (d : Bool) (s s′ xs m t u : List ℕ) (i : ℕ) → i ≤ length xs → length xs - i < 4 → Leads d s xs i t u
+    → (let x = take (length xs - i) (drop i xs) in m ≡ masked (reading s) x → s′ ≡ moved d s x m → (putMid i (length xs - i) xs m ≡ t) × (s′ ≡ u))
+crypt-end d s s′ xs m t u i h short (e, f) em es =
+    let whole = take-rest xs i in
+    let few : length (drop i xs) < 4 = simp length-drop (omega arith) in
+    let none : drop (length xs - i) (drop i xs) ≡ [] = drop-all (length xs - i) (drop i xs) (simp length-drop (omega arith)) in
+    let front = append-nil m in
+    let sum = crypted-last d s (drop i xs) few in
+    let state = moved-last d s (drop i xs) few in
+    (cc, cc)
+
+-- decrypting undoes encrypting from the same state
+pub deciphered-enciphered : (s t : List ℕ) → deciphered s (enciphered s t) ≡ t
+unfolding enciphered deciphered
+deciphered-enciphered s [] = refl
+deciphered-enciphered s (a ∷ []) = masked-twice (reading s) (a ∷ [])
+deciphered-enciphered s (a ∷ b ∷ []) = masked-twice (reading s) (a ∷ b ∷ [])
+deciphered-enciphered s (a ∷ b ∷ c ∷ []) = masked-twice (reading s) (a ∷ b ∷ c ∷ [])
+deciphered-enciphered s (a ∷ b ∷ c ∷ d ∷ t) =
+    let x = a ∷ b ∷ c ∷ d ∷ [] in
+    ap (λ y. y ++ text-blocks (step s (padded y)) (blocks (cipher-blocks (step s (padded x)) (blocks t)))) (masked-twice (reading s) x)
+    ∙ ap (λ r. x ++ r) (deciphered-enciphered (step s (padded x)) t)

@@ -1,0 +1,7 @@
+use Prim.Native.Nat.{_-_}
+use mathlib.Core.Path.{_≡_}
+use Rattle.duplex.specs.Strings.{blanked}
+use Rattle.strings.proofs.Duplex.blank.Given as given
+
+abbrev pub Inv-loop : given.InvT-loop
+Inv-loop g l = blanked (g .E·Engine .bits (l .self .engine)) (l .times - l .counter) ≡ blanked (g .E·Engine .bits (l .entry .self .engine)) (l .times)
