@@ -1,14 +1,16 @@
 -- Laws of a buffer: what is written piece by piece is what is written at once.
-use Prim.Native.Nat.{ℕ, zero, suc, _+_, _/_, _%_, _^_, _<_, _≤_}
+use Prim.Native.Nat.{ℕ, zero, suc, _+_, _*_, _/_, _%_, _^_, _<_, _≤_}
 use mathlib.Core.Path.{_≡_, refl, sym, ap, _∙_}
 use mathlib.Core.List.{List, [], _∷_, _++_}
 use native.Mathlib.Omega.{arith}
 use lib.ListN.{length, take, set}
 use Rattle.std.proofs.shelf.Lists.{append-assoc, append-nil, length-append, length-take, take-all, take-at, take-more-set, length-push}
 use Rattle.std.specs.Written.{decimal}
-use Rattle.std.proofs.shelf.Decimals.{decimal-step, decimal-digit}
+use Rattle.std.proofs.shelf.Decimals.{decimal-step, decimal-digit, length-decimal-le}
+use Rattle.refusals.specs.declared.Refusal.{Refusal}
 use Rattle.console.specs.declared.buffer.Buffer.{Buffer}
-use Rattle.console.specs.Buffers.{held, kept}
+use Rattle.console.specs.Buffers.{held, kept, hex}
+use Rattle.console.specs.Replies.{refused, line-feed}
 
 take-front : (n : ℕ) (xs ys : List ℕ) → take n (take n xs ++ ys) ≡ take n (xs ++ ys)
 take-front zero xs ys = refl
@@ -58,3 +60,22 @@ pub one-digit : (h h₂ : List ℕ) (n : ℕ) → n < 10 → h₂ ≡ kept h ((4
 one-digit h h₂ n small e =
     let d : n % 10 ≡ n = omega arith in
     e ∙ ap (λ m. kept h ((48 + m) ∷ [])) d ∙ ap (kept h) (sym (decimal-digit n small))
+
+-- one piece after another
+pub kept-then : (h xs ys r r′ : List ℕ) → r ≡ kept h xs → r′ ≡ kept r ys → r′ ≡ kept h (xs ++ ys)
+kept-then h xs ys r r′ e e′ = e′ ∙ ap (λ h. kept h ys) e ∙ kept-kept h xs ys
+
+-- what fits into an empty buffer
+pub kept-new : (h xs r : List ℕ) → h ≡ [] → r ≡ kept h xs → length xs ≤ 131 → r ≡ xs
+kept-new h xs r empty e room = e ∙ ap (λ h. kept h xs) empty ∙ kept-all [] xs (omega arith)
+
+pub length-hex : (bs : List ℕ) → length (hex bs) ≡ 2 * length bs
+length-hex [] = refl
+length-hex (b ∷ bs) = omega (arith, length-hex bs)
+
+digits-20 : (n : ℕ) → n < 2 ^ 64 → length (decimal n) ≤ 20
+digits-20 n h = length-decimal-le 20 n (omega arith) (omega arith) h
+
+pub length-refused : (line : ℕ) (r : Refusal) → line < 2 ^ 64 → r .number < 2 ^ 64 → r .place < 2 ^ 64 → length (refused line r ++ line-feed ∷ []) ≤ 131
+length-refused line r h n p =
+    simp length-append (omega (arith, digits-20 line h, digits-20 (r .number) n, digits-20 (r .place) p))

@@ -1,2 +1,3 @@
 mod LineLaws
 mod BufferLaws
+mod Bounds

@@ -1,23 +1,23 @@
 -- Laws of the lines: a line by its first byte and the rest, as the code takes it apart.
-use Prim.Native.Nat.{ℕ, suc, _+_, _-_, _%_, _<_, _≤_}
+use Prim.Native.Nat.{ℕ, suc, _+_, _-_, _*_, _%_, _<_, _≤_}
 use mathlib.Core.Path.{_≡_, refl, sym, ap, _∙_}
 use mathlib.Core.Bool.{Bool, true, false, cond, _||_}
-use mathlib.Core.List.{List, [], _∷_}
+use mathlib.Core.List.{List, [], _∷_, _++_}
 use native.Mathlib.Omega.{arith}
 use lib.Dec.{eqb, ltb}
-use lib.ListN.{length, getD, take, drop}
+use lib.ListN.{length, getD, set, take, drop}
 use Rattle.std.specs.Options.{isSome, orOther}
 use Rattle.std.specs.declared.option.Option.{Option}
 use Rattle.std.specs.declared.option.Option.the-variants.{Some, None}
 use Rattle.std.specs.declared.result.Result.{Result}
 use Rattle.std.specs.declared.result.Result.the-variants.{Ok, Err}
-use Rattle.std.proofs.shelf.Lists.{at-drop-more, at-drop-all}
+use Rattle.std.proofs.shelf.Lists.{at-drop-more, at-drop-all, append-assoc, append-nil, drop-more, length-drop, take-more-set}
 use Rattle.std.proofs.shelf.Parts.{first-rest}
 use Rattle.std.proofs.shelf.Tests.{le-ltb, ne-eqb, eq-eqb}
 use Rattle.console.specs.declared.terms.Command.{Command}
 use Rattle.console.specs.declared.terms.Fault.{Fault}
 use Rattle.console.specs.declared.terms.Fault.the-variants.{Letter, Byte, Hex, Count, Length}
-use Rattle.console.specs.Lines.{hex-value, bad-digit, hex-fault, unless, with-string, count-digits, with-count, by-letter, parsed}
+use Rattle.console.specs.Lines.{hex-value, bad-digit, hex-fault, unless, with-string, count-digits, with-count, by-letter, parsed, digit-value, unhex}
 
 -- all but the first byte
 abbrev pub tail : List ℕ → List ℕ
@@ -73,3 +73,29 @@ unfolding hex-fault
 bad-digit-none xs i t h so e =
     ap (λ t. cond t (Some (3 + length xs)) None) (sym e)
     ∙ ap (λ o. orOther o (cond (eqb (length xs % 2) 1 || eqb (length xs) 0) (Some (3 + length xs)) None)) (sym (at-drop-all (bad-digit (3 + i)) xs i h) ∙ so)
+
+-- decoding, one pair of digits after the other
+pub unhex-more : (line text : List ℕ) (i v : ℕ) → 3 + 2 * i < length line → i < length text → v ≡ 16 * digit-value (getD line (2 + 2 * i) 0) + digit-value (getD line (3 + 2 * i) 0)
+    → take (i + 1) (set text i v) ++ unhex (drop (2 + 2 * (i + 1)) line) ≡ take i text ++ unhex (drop (2 + 2 * i) line)
+unhex-more line text i v h l e =
+    let k = 2 + 2 * i in
+    let k₁ : k + 1 ≡ 3 + 2 * i = omega arith in
+    let k₂ : 3 + 2 * i + 1 ≡ 2 + 2 * (i + 1) = omega arith in
+    let first = drop-more line k 0 (omega arith) in
+    let second = drop-more line (3 + 2 * i) 0 h in
+    let pair : drop k line ≡ getD line k 0 ∷ getD line (3 + 2 * i) 0 ∷ drop (2 + 2 * (i + 1)) line =
+    first ∙ ap (λ n. getD line k 0 ∷ drop n line) k₁ ∙ ap (λ xs. getD line k 0 ∷ xs) second ∙ ap (λ n. getD line k 0 ∷ getD line (3 + 2 * i) 0 ∷ drop n line) k₂ in
+    let rest = unhex (drop (2 + 2 * (i + 1)) line) in
+    ap (λ xs. xs ++ rest) (take-more-set text i v l)
+    ∙ append-assoc (take i text) (v ∷ []) rest
+    ∙ ap (λ b. take i text ++ (b ∷ rest)) e
+    ∙ ap (λ xs. take i text ++ unhex xs) (sym pair)
+
+unhex-short : (xs : List ℕ) → length xs < 2 → unhex xs ≡ []
+unhex-short [] h = refl
+unhex-short (a ∷ []) h = refl
+unhex-short (a ∷ b ∷ xs) h = absurd (omega arith)
+
+pub unhex-none : (line text : List ℕ) (i : ℕ) → length line < 2 + 2 * i + 2 → take i text ++ unhex (drop (2 + 2 * i) line) ≡ take i text
+unhex-none line text i h =
+    ap (λ xs. take i text ++ xs) (unhex-short (drop (2 + 2 * i) line) (simp length-drop (omega arith))) ∙ append-nil (take i text)

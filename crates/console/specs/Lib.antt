@@ -1,3 +1,4 @@
 pub mod Refusals
 pub mod Lines
 pub mod Buffers
+pub mod Replies

@@ -1,5 +1,5 @@
 -- The lines of the bench: what a line asks for, or why it is refused.
-use Prim.Native.Nat.{ℕ, _+_, _-_, _*_, _%_}
+use Prim.Native.Nat.{ℕ, _+_, _-_, _*_, _%_, _≤_}
 use Prim.Native.String.{String}
 use mathlib.Core.Bool.{Bool, cond, _&&_, _||_}
 use mathlib.Core.List.{List, [], _∷_}
@@ -93,12 +93,25 @@ short-line (c ∷ rest) = by-letter c rest
 abbrev pub parsed : List ℕ → Result Command Fault
 parsed line = cond (ltb 130 (length line)) (Err Length) (short-line line)
 
+abbrev pub digit-value : ℕ → ℕ
+digit-value c = valueOr (hex-value c) 0
+
 -- the bytes that hex digits write
 abbrev pub unhex : List ℕ → List ℕ
 unhex [] = []
 unhex (a ∷ []) = []
-unhex (a ∷ b ∷ cs) = (16 * valueOr (hex-value a) 0 + valueOr (hex-value b) 0) ∷ unhex cs
+unhex (a ∷ b ∷ cs) = (16 * digit-value a + digit-value b) ∷ unhex cs
 
 -- the string of a line with a string command: the digits begin at its third byte
 abbrev pub string-of : List ℕ → List ℕ
 string-of line = unhex (drop 2 line)
+
+-- a count is at most 64
+abbrev pub Within : Command → Type 0
+Within (Blank n) = n ≤ 64
+Within (Squeeze n) = n ≤ 64
+Within Zero = Unit {0}
+Within Absorb = Unit {0}
+Within AbsorbUnkeyed = Unit {0}
+Within Encrypt = Unit {0}
+Within Decrypt = Unit {0}

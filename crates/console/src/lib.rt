@@ -1,9 +1,11 @@
 // The interpreter of a bench line: it reads a command, carries it out on a duplex object and gives the bytes to print.
 mod buffer;
+mod carry;
 mod reading;
 mod terms;
 
 pub use buffer::Buffer;
+pub use carry::interpret;
 pub use reading::parse;
 pub use terms::Command;
 pub use terms::Fault;
