@@ -94,5 +94,6 @@ chi-form a b c ha hb hc = two-cases (P b c) (for-b 0 refl refl refl refl) (for-b
   where
     P : ℕ → ℕ → ℕ → Type 0
     P b c a = bitXor (bitXor a c) (bitAnd b c) ≡ bitXor a (bitAnd (bitXor b 1) c)
+
     for-b : (a : ℕ) → P 0 0 a → P 0 1 a → P 1 0 a → P 1 1 a → P b c a
     for-b a p q r s = two-cases (λ b. P b c a) (two-cases (λ c. P 0 c a) p q c hc) (two-cases (λ c. P 1 c a) r s c hc) b hb

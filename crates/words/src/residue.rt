@@ -26,7 +26,11 @@ impl Residue {
         let low = product % 256;
         let high = product / 256;
         Residue {
-            value: if high <= low { low - high } else { low + 257 - high },
+            value: if high <= low {
+                low - high
+            } else {
+                low + 257 - high
+            },
         }
     }
 
