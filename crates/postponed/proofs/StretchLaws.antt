@@ -148,27 +148,20 @@ inject-cut : (c : ℕ) (s : List ℕ) (x : ℕ) → inject-by (c % 257) s x ≡ 
 unfolding inject-by
 inject-cut c s x = add-bits-ext (place-by (c % 257)) (place-by c) (λ j. cut-left c (position j)) x (counting 0 33) s
 
-reading-stretch : (c : ℕ) (s : List ℕ) → reading (stretch c s) ≡ reading-by c s
+pub reading-stretch : (c : ℕ) (s : List ℕ) → reading (stretch c s) ≡ reading-by c s
 unfolding reading reading-by
 reading-stretch c s =
     ap number (map-ext (read-bit (stretch c s)) (read-bit-by c s)
     (λ j. ap (λ n. bitXor n (at (stretch c s) (257 - position j))) (at-stretch c s (position j)) ∙ ap (bitXor (at s (c * position j))) (at-stretch c s (257 - position j)))
     (counting 0 32))
 
--- The factor c is known as k modulo 257.
-
-stretch-as : (k c : ℕ) (s : List ℕ) → c ≡ k % 257 → stretch c s ≡ stretch k s
-stretch-as k c s e = ap (λ n. stretch n s) e ∙ stretch-cut k s
-
-pub reading-as : (k c : ℕ) (s : List ℕ) → c ≡ k % 257 → reading-by c s ≡ reading (stretch k s)
-reading-as k c s e = sym (reading-stretch c s) ∙ ap reading (stretch-as k c s e)
-
--- a step, with c′ as 12 c modulo 257 and as k′
-pub step-as : (k c k′ c′ : ℕ) (s : List ℕ) (x : ℕ) → Invertible k → c ≡ k % 257 → c′ ≡ k′ % 257 → 12 * c % 257 ≡ c′
-    → stretch k′ (inject-by c′ (round-by c s) x) ≡ step (stretch k s) x
-step-as k c k′ c′ s x (d, i) e e′ next =
+-- a step at a factor that is c modulo 257, the next factor being 12 times it modulo 257
+pub step-stretched : (k c k′ : ℕ) (s : List ℕ) (x : ℕ) → Invertible k → c ≡ k % 257 → 12 * k % 257 ≡ k′ % 257
+    → stretch k′ (inject-by k′ (round-by c s) x) ≡ step (stretch k s) x
+step-stretched k c k′ s x (d, i) e next =
     let iv : Invertible c = (d, ap (λ n. n * d % 257) e ∙ (cut-left k d ∙ i)) in
-    let t = round-by c s in
-    sym (stretch-as k′ c′ _ e′)
-    ∙ (ap (λ n. stretch n (inject-by n t x)) (sym next)
-    ∙ (stretch-cut (12 * c) _ ∙ (ap (stretch (12 * c)) (inject-cut (12 * c) t x) ∙ (sym (step-stretch c s x iv) ∙ ap (λ u. step u x) (stretch-as k c s e)))))
+    let same : 12 * c % 257 ≡ k′ % 257 = ap (λ n. 12 * n % 257) e ∙ (cut-right 12 k ∙ next) in
+    let at-factor : (n : ℕ) → stretch (n % 257) (inject-by (n % 257) (round-by c s) x) ≡ stretch n (inject-by n (round-by c s) x) =
+    λ n. stretch-cut n _ ∙ ap (stretch n) (inject-cut n (round-by c s) x) in
+    sym (at-factor k′) ∙ (ap (λ n. stretch n (inject-by n (round-by c s) x)) (sym same)
+    ∙ (at-factor (12 * c) ∙ (sym (step-stretch c s x iv) ∙ ap (λ u. step u x) (ap (λ n. stretch n s) e ∙ stretch-cut k s))))

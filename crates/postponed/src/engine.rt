@@ -1,38 +1,38 @@
 // The postponed engine: packed bits a, and the count n of shuffles that are owed. State bit i is a(12^n × i).
-ghost use Prim.Native.Nat.{_^_, _<_};
+ghost use Prim.Native.Nat.{_^_};
 ghost use Rattle.words.specs.Packing.{cells};
 ghost use Rattle.postponed.specs.Stretch.{stretch};
-use crate::table::power;
+use crate::count::Count;
+use crate::count::CountPlaces;
 use duplex::Engine;
 use words::Words;
 
 #[derive(Clone, Copy)]
 pub struct Postponed {
     words: Words,
-    count: u32,
-    ghost low: { count < 256 },
+    count: Count,
 }
 
 pub impl Engine for Postponed as PostponedEngine {
-    ghost bits = { λ e. stretch (12 ^ e .count) (cells (e .words .words)) };
+    ghost bits = { λ e. stretch (12 ^ e .count .value) (cells (e .words .words)) };
 
     fn new() -> Postponed {
         Postponed {
             words: Words::new(),
-            count: 0,
+            count: Count { value: 0 },
         }
     }
 
     // Distances are for the count before the round, positions for the count after it.
     fn step(&mut self, block: u64) {
-        let mut words = self.words.round_by(power(self.count));
-        let count = if self.count == 255 { 0 } else { self.count + 1 };
-        words.inject_by(block, power(count));
+        let mut words = self.words.round_by(self.count.power());
+        let count = self.count.next();
+        words.inject_by(block, &count);
         *self = Postponed { words, count };
     }
 
     fn read(&self) -> u32 {
-        self.words.read_by(power(self.count))
+        self.words.read_by(&self.count)
     }
 
     fn copy(&self) -> Postponed {

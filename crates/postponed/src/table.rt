@@ -1,9 +1,6 @@
 // The powers of 12 modulo 257.
 ghost use mathlib.Core.Path.{_≡_};
-ghost use Prim.Native.Nat.{_<_};
-ghost use lib.ListN.{getD};
 ghost use Rattle.postponed.specs.Powers.{IsPowers, powers-of-12};
-use words::Residue;
 
 const POWERS: [u16; 256] = [
     1,
@@ -270,14 +267,4 @@ pub fn powers() -> &'static [u16; 256]
     ensures rules { λ r. ⌜ IsPowers (now r) ⌝ }
 {
     &POWERS
-}
-
-// 12 to the power n.
-pub(crate) fn power(n: u32) -> Residue
-    requires { ⌜ n < 256 ⌝ }
-    ensures { λ r. ⌜ r .value ≡ getD powers-of-12 n 0 ⌝ }
-{
-    Residue {
-        value: u32::from(powers()[n as usize]),
-    }
 }

@@ -3,3 +3,4 @@ pub mod ModLaws
 pub mod WordLaws
 pub mod RowLaws
 pub mod FactorLaws
+pub mod ReadLaws

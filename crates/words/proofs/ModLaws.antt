@@ -11,15 +11,6 @@ mod-cong n m q e = ap (λ k. k % 257) e ∙ add-mul-mod-self-left m 257 q
 pub sum-mod : (a b x y : ℕ) → x ≡ a % 257 → y ≡ b % 257 → (x + y) % 257 ≡ (a + b) % 257
 sum-mod a b x y p q = sym (mod-cong (a + b) (x + y) (a / 257 + b / 257) (omega arith))
 
--- 3 and 8 times a number, by sums
-pub threefold : (c two three : ℕ) → c < 257 → two ≡ (c + c) % 257 → three ≡ (c + two) % 257 → three ≡ 3 * c % 257
-threefold c two three h p q = q ∙ (sum-mod c (c + c) c two (omega arith) p ∙ ap (λ n. n % 257) (omega arith))
-
-pub eightfold : (c two four eight : ℕ) → two ≡ (c + c) % 257 → four ≡ (two + two) % 257 → eight ≡ (four + four) % 257 → eight ≡ 8 * c % 257
-eightfold c two four eight p q r =
-    let four-is : four ≡ (c + c + (c + c)) % 257 = q ∙ sum-mod (c + c) (c + c) two two p p in
-    r ∙ (sum-mod (c + c + (c + c)) (c + c + (c + c)) four four four-is four-is ∙ ap (λ n. n % 257) (omega arith))
-
 -- a factor cut at 257
 pub cut-left : (c i : ℕ) → c % 257 * i % 257 ≡ c * i % 257
 cut-left c i =

@@ -9,4 +9,6 @@ mod vector;
 pub use packed::Packed;
 pub use packed::PackedEngine;
 pub use residue::Residue;
+pub use transfer::Lane;
+pub use transfer::Places;
 pub use vector::Words;

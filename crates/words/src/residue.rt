@@ -1,6 +1,6 @@
 // Numbers modulo 257.
 ghost use mathlib.Core.Path.{_≡_};
-ghost use Prim.Native.Nat.{_+_, _-_, _*_, _%_, _<_};
+ghost use Prim.Native.Nat.{_+_, _*_, _%_, _<_};
 
 #[derive(Clone, Copy)]
 pub struct Residue {
@@ -31,15 +31,6 @@ impl Residue {
             } else {
                 low + 257 - high
             },
-        }
-    }
-
-    // The number that gives 0 when it is added.
-    pub fn opposite(self) -> Residue
-        ensures { λ r. ⌜ r .value ≡ (257 - self .value) % 257 ⌝ }
-    {
-        Residue {
-            value: if self.value == 0 { 0 } else { 257 - self.value },
         }
     }
 }

@@ -13,7 +13,7 @@ impl Words {
     {
         let row = Row::new(self);
         let x = row.rotate(c).words;
-        let y = row.rotate(c.plus(c)).words;
+        let y = row.rotate(c.times(Residue { value: 2 })).words;
         let w = self.words;
         let mut words = [0u32; 9];
         for k in 0..9 {
@@ -27,10 +27,8 @@ impl Words {
         ensures { λ r. ⌜ cells (r .words) ≡ theta-by (c .value) (cells (now (self .entry) .words)) ⌝ }
     {
         let row = Row::new(self);
-        let two = c.plus(c);
-        let four = two.plus(two);
-        let x = row.rotate(c.plus(two)).words;
-        let y = row.rotate(four.plus(four)).words;
+        let x = row.rotate(c.times(Residue { value: 3 })).words;
+        let y = row.rotate(c.times(Residue { value: 8 })).words;
         let w = self.words;
         let mut words = [0u32; 9];
         for k in 0..9 {

@@ -1,6 +1,7 @@
 -- Every word is made by chi's operation, which acts on each place alone.
 use Prim.Native.Nat.{_*_, _%_, _<_}
 use mathlib.Core.Path.{sym, ap, subst, _∙_}
+use native.Mathlib.Nat.{mul-comm}
 use native.Mathlib.Omega.{arith}
 use Rattle.words.specs.Packing.{chi-by}
 use Rattle.words.proofs.WordLaws.{chi-word, chi-bits, chi-placewise, chi-spare, cells-placewise}
@@ -21,5 +22,5 @@ returns c =
     let same = c .new-row .ensures in
     cells-placewise chi-word chi-bits w _ _ _ k (2 * k) chi-placewise
     (turned w _ _ _ k same (omega arith) (c .rotate .ensures))
-    (turned w _ _ _ (2 * k) same (c .plus .ensures ∙ ap (λ n. n % 257) (omega arith)) (c .rotate-2 .ensures))
+    (turned w _ _ _ (2 * k) same (c .times .ensures ∙ ap (λ n. n % 257) (mul-comm k 2)) (c .rotate-2 .ensures))
     (λ i h. c .loop-k .inv .1 i (omega arith))

@@ -1,9 +1,9 @@
 -- Every word is made by theta's operation, which acts on each place alone.
 use Prim.Native.Nat.{_*_, _%_, _<_}
-use mathlib.Core.Path.{sym, subst}
+use mathlib.Core.Path.{sym, ap, subst, _∙_}
+use native.Mathlib.Nat.{mul-comm}
 use native.Mathlib.Omega.{arith}
 use Rattle.words.specs.Packing.{theta-by}
-use Rattle.words.proofs.ModLaws.{threefold, eightfold}
 use Rattle.words.proofs.WordLaws.{theta-word, theta-placewise, theta-spare, cells-placewise}
 use Rattle.words.proofs.RowLaws.{turned}
 use Rattle.words.proofs.vector.Words.theta_by.Needs as need
@@ -20,8 +20,7 @@ returns c =
     let w = c .args .self .now .words in
     let k = c .args .c .value in
     let same = c .new-row .ensures in
-    let two = c .plus-two .ensures in
     cells-placewise theta-word theta-word w _ _ _ (3 * k) (8 * k) theta-placewise
-    (turned w _ _ _ (3 * k) same (threefold k _ _ (c .args .c .below) two (c .plus .ensures)) (c .rotate .ensures))
-    (turned w _ _ _ (8 * k) same (eightfold k _ _ _ two (c .plus-four .ensures) (c .plus-2 .ensures)) (c .rotate-2 .ensures))
+    (turned w _ _ _ (3 * k) same (c .times .ensures ∙ ap (λ n. n % 257) (mul-comm k 3)) (c .rotate .ensures))
+    (turned w _ _ _ (8 * k) same (c .times-2 .ensures ∙ ap (λ n. n % 257) (mul-comm k 8)) (c .rotate-2 .ensures))
     (λ i h. c .loop-k .inv .1 i (omega arith))
