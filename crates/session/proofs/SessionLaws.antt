@@ -6,16 +6,13 @@ use mathlib.Core.List.{List, _++_}
 use native.Mathlib.Omega.{arith}
 use lib.Dec.{ltb}
 use lib.ListN.{length, take, drop}
-use Rattle.std.specs.declared.result.Result.{Result}
 use Rattle.std.specs.declared.result.Result.the-variants.{Ok, Err}
-use Rattle.std.specs.shelf.Text.{sameBytes}
 use Rattle.std.proofs.shelf.Equals.{sameBytes-decides}
 use Rattle.std.proofs.shelf.Lists.{take-at}
 use Rattle.std.proofs.shelf.Tests.{lt-ltb, le-ltb}
 use Rattle.duplex.specs.Strings.{absorbed, squeezed, readings}
 use Rattle.strings.proofs.Blocks.{deciphered-enciphered, enciphered-deciphered, length-enciphered, length-deciphered}
-use Rattle.session.specs.declared.fault.SessionFault.{SessionFault}
-use Rattle.session.specs.declared.fault.SessionFault.the-variants.{Short, Tag}
+use Rattle.session.specs.declared.fault.SessionFault.the-variants.{Short}
 use Rattle.session.specs.Sessions.{cipher, tag-of, after, plain, opens, shown}
 use Rattle.session.specs.Calls.{Answer, seal-answer, verdict, open-answer, open-bits, open-out, ReadsBack, OnlySealed}
 

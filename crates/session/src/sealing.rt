@@ -1,10 +1,8 @@
 // Keyed states and sessions. The order of the calls is in the types: only what was given a nonce can seal and open.
 ghost use mathlib.Core.Path.{_≡_};
-ghost use Prim.Native.Nat.{_≤_};
-ghost use mathlib.Core.List.{List};
 ghost use lib.ListN.{length};
 ghost use Rattle.duplex.specs.Strings.{blanked, squeezed, drained};
-ghost use Rattle.session.specs.Sessions.{keyed, given, cipher, tag-of, after, plain, opens, shown};
+ghost use Rattle.session.specs.Sessions.{keyed, given, begun, cipher, tag-of, after, plain, opens, shown};
 ghost use Rattle.session.specs.Calls.{keyed-bits, session-bits, seal-answer, seal-bits, seal-out, seal-tag, verdict, open-answer, open-bits, open-out, ReadsBack, OnlySealed};
 use crate::fault::SessionFault;
 use crate::guard::Guard;
@@ -49,6 +47,13 @@ pub struct Session<E> {
 }
 
 impl<E: Engine> Session<E> {
+    // The session of a key and a nonce.
+    pub fn begin(key: &Key, nonce: &Nonce) -> Session<E>
+        ensures { λ r. ⌜ session-bits bits r ≡ begun (now (key .entry) .bytes) (now (nonce .entry) .bytes) ⌝ }
+    {
+        Keyed::new(key).give_nonce(nonce)
+    }
+
     // A second session at the same bits.
     pub fn copy(&self) -> Session<E>
         ensures { λ r. ⌜ session-bits bits r ≡ session-bits bits (now (self .entry)) ⌝ }
@@ -71,12 +76,11 @@ impl<E: Engine> Session<E> {
         ensures out { λ r. ⌜ now (out .exit) ≡ seal-out (session-bits bits (now (self .entry))) (now (ad .entry)) (now (text .entry)) (now (out .entry)) r ⌝ }
         ensures tag { λ r. ⌜ now (tag .exit) .bytes ≡ seal-tag (session-bits bits (now (self .entry))) (now (ad .entry)) (now (text .entry)) (now (tag .entry) .bytes) r ⌝ }
     {
-        let n = text.len();
-        if out.len() < n {
+        if out.len() < text.len() {
             return Err(SessionFault::Short { room: out.len() });
         }
-        *tag = self.seal_whole(ad, text, &mut out[0..n]);
-        Ok(n)
+        *tag = self.seal_whole(ad, text, &mut out[0..text.len()]);
+        Ok(text.len())
     }
 
     // Opens a ciphertext into the front of `out`, and answers its length. If the tag differs, the bytes of the text stand at zero.
@@ -93,11 +97,10 @@ impl<E: Engine> Session<E> {
         ensures back { λ r. ⌜ ReadsBack (session-bits bits (now (self .entry))) (now (ad .entry)) (now (ciphertext .entry)) (now (tag .entry) .bytes) (now (out .entry)) r (session-bits bits (now (self .exit))) (now (out .exit)) ⌝ }
         ensures only { λ r. ⌜ OnlySealed (session-bits bits (now (self .entry))) (now (ad .entry)) (now (ciphertext .entry)) (now (tag .entry) .bytes) r (session-bits bits (now (self .exit))) (now (out .exit)) ⌝ }
     {
-        let n = ciphertext.len();
-        if out.len() < n {
+        if out.len() < ciphertext.len() {
             return Err(SessionFault::Short { room: out.len() });
         }
-        self.open_whole(ad, ciphertext, tag, &mut out[0..n])
+        self.open_whole(ad, ciphertext, tag, &mut out[0..ciphertext.len()])
     }
 
     // Seals into a buffer of just the right length, and gives the tag.

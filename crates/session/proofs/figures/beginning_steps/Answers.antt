@@ -1,9 +1,9 @@
 -- Empty steps as blocks, and the lengths of the parts.
-use Prim.Native.Nat.{ℕ, zero, suc, _+_, _/_}
-use mathlib.Core.Path.{_≡_, refl, sym, ap, ap₂, _∙_}
+use Prim.Native.Nat.{ℕ}
+use mathlib.Core.Path.{_≡_, refl, sym, _∙_}
 use mathlib.Core.List.{List, [], _∷_, _++_}
 use native.Mathlib.Omega.{arith}
-use lib.ListN.{length, replicate, length-append}
+use lib.ListN.{replicate, length-append}
 use Rattle.duplex.specs.State.{zeros, step}
 use Rattle.duplex.specs.Strings.{padded, blocks, steps, absorbed, blanked}
 use Rattle.session.specs.Sessions.{keyed, given, begun}

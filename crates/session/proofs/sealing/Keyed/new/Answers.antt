@@ -1,6 +1,4 @@
 -- The key on the zero state.
-use mathlib.Core.Path.{_≡_, ap, _∙_}
-use Rattle.duplex.specs.Strings.{absorbed}
 use Rattle.session.specs.Sessions.{keyed}
 use Rattle.session.proofs.sealing.Keyed.new.Needs as need
 
