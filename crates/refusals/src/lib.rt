@@ -2,6 +2,7 @@
 
 #[derive(Clone, Copy)]
 pub enum Layer {
+    Session,
     Bench,
 }
 
