@@ -3,6 +3,8 @@
 #[derive(Clone, Copy)]
 pub enum Layer {
     Bench,
+    Digest,
+    Deck,
 }
 
 #[derive(Clone, Copy)]
