@@ -4,6 +4,8 @@
 pub enum Layer {
     Session,
     Bench,
+    Digest,
+    Deck,
 }
 
 #[derive(Clone, Copy)]
