@@ -3,9 +3,10 @@
 #[derive(Clone, Copy)]
 pub enum Layer {
     Session,
-    Bench,
+    Link,
     Digest,
     Deck,
+    Bench,
 }
 
 #[derive(Clone, Copy)]
