@@ -12,7 +12,8 @@ use std::error::AnyError;
 use words::Packed;
 use words::PackedEngine;
 
-const USAGE: &str = "usage: steps plain|packed|postponed COUNT: COUNT steps and readings in a chain from zero; prints the last reading";
+const USAGE: &str =
+    "usage: steps plain|packed|postponed COUNT: COUNT steps and readings in a chain from zero; prints the last reading";
 
 // A full block with the last reading as its four bytes, again and again.
 fn chain<E: Engine>(count: u32) -> u32
