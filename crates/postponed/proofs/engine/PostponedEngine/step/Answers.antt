@@ -15,5 +15,5 @@ returns c =
     let n′ = c .next-count .result .value in
     let x = c .args .block in
     ap (stretch (12 ^ n′)) (c .inject-by .ensures ∙ ap (λ t. inject-by (12 ^ n′) t x) (c .round-by-words .ensures))
-    ∙ step-stretched (12 ^ n) _ (12 ^ n′) (cells (e .words .words)) x (invertible-power n) (c .power .ensures)
+    ∙ step-stretched (12 ^ n) _ (12 ^ n′) (cells (e .words .array)) x (invertible-power n) (c .power .ensures)
     (next-count n ∙ ap power-of-12 (sym (c .next-count .ensures)))

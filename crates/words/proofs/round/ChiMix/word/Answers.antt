@@ -1,0 +1,25 @@
+-- Place by place, (x + 1) × y is y + x × y.
+use Prim.Native.Nat.{ℕ}
+use mathlib.Core.Path.{_≡_, ap, _∙_}
+use native.Mathlib.Omega.{arith}
+use lib.Bits.{bitAnd, bitXor, and-lt, xor-lt}
+use Rattle.duplex.specs.State.{bit}
+use Rattle.words.specs.Packing.{chi-rule}
+use Rattle.words.proofs.BitLaws.{bit-xor, bit-and, chi-form}
+use Rattle.words.proofs.round.ChiMix.word.Needs as need
+
+placewise : (a x y j : ℕ) → bit (bitXor (bitXor a y) (bitAnd x y)) j ≡ chi-rule (bit a j) (bit x j) (bit y j)
+placewise a x y j =
+    bit-xor (bitXor a y) (bitAnd x y) j
+    ∙ (ap (λ n. bitXor n (bit (bitAnd x y) j)) (bit-xor a y j) ∙ (ap (bitXor (bitXor (bit a j) (bit y j))) (bit-and x y j)
+    ∙ chi-form (bit a j) (bit x j) (bit y j) (omega arith) (omega arith) (omega arith)))
+
+pub returns : need.returns
+returns c =
+    let a = c .args .a in
+    let x = c .args .x in
+    let y = c .args .y in
+    record {
+      places = placewise a x y;
+      narrow = λ ha hx hy. xor-lt 1 (bitXor a y) (bitAnd x y) (xor-lt 1 a y ha hy) (and-lt 1 x y hx hy);
+    }
