@@ -36,6 +36,9 @@ pub impl Engine for Postponed as PostponedEngine {
     }
 
     fn copy(&self) -> Postponed {
-        *self
+        Postponed {
+            words: self.words,
+            count: self.count,
+        }
     }
 }

@@ -45,6 +45,6 @@ pub impl Engine for Packed as PackedEngine {
     }
 
     fn copy(&self) -> Packed {
-        *self
+        Packed { words: self.words }
     }
 }

@@ -1,5 +1,5 @@
 -- Place by place, (x + 1) × y is y + x × y.
-use Prim.Native.Nat.{ℕ}
+use Prim.Native.Nat.{ℕ, _<_}
 use mathlib.Core.Path.{_≡_, ap, _∙_}
 use native.Mathlib.Omega.{arith}
 use lib.Bits.{bitAnd, bitXor, and-lt, xor-lt}
@@ -14,12 +14,8 @@ placewise a x y j =
     ∙ (ap (λ n. bitXor n (bit (bitAnd x y) j)) (bit-xor a y j) ∙ (ap (bitXor (bitXor (bit a j) (bit y j))) (bit-and x y j)
     ∙ chi-form (bit a j) (bit x j) (bit y j) (omega arith) (omega arith) (omega arith)))
 
+one-bit : (a x y : ℕ) → a < 2 → x < 2 → y < 2 → bitXor (bitXor a y) (bitAnd x y) < 2
+one-bit a x y ha hx hy = xor-lt 1 (bitXor a y) (bitAnd x y) (xor-lt 1 a y ha hy) (and-lt 1 x y hx hy)
+
 pub returns : need.returns
-returns c =
-    let a = c .args .a in
-    let x = c .args .x in
-    let y = c .args .y in
-    record {
-      places = placewise a x y;
-      narrow = λ ha hx hy. xor-lt 1 (bitXor a y) (bitAnd x y) (xor-lt 1 a y ha hy) (and-lt 1 x y hx hy);
-    }
+returns c = record { places = placewise (c .args .a) (c .args .x) (c .args .y); narrow = one-bit (c .args .a) (c .args .x) (c .args .y) }

@@ -7,10 +7,7 @@ use Rattle.words.proofs.round.ThetaMix.word.Needs as need
 
 pub returns : need.returns
 returns c =
-    let a = c .args .a in
-    let x = c .args .x in
-    let y = c .args .y in
     record {
-      places = λ j. bit-xor (bitXor a x) y j ∙ ap (λ n. bitXor n (bit y j)) (bit-xor a x j);
-      narrow = λ ha hx hy. xor-lt 1 (bitXor a x) y (xor-lt 1 a x ha hx) hy;
+      places = λ j. bit-xor _ (c .args .y) j ∙ ap (λ n. bitXor n (bit (c .args .y) j)) (bit-xor (c .args .a) (c .args .x) j);
+      narrow = λ ha hx hy. xor-lt 1 _ (c .args .y) (xor-lt 1 (c .args .a) (c .args .x) ha hx) hy;
     }
