@@ -10,7 +10,7 @@ use lib.Pow.{pow-mono}
 use Rattle.std.proofs.shelf.Bits.{and-mask}
 use Rattle.std.proofs.shelf.Lists.{getD-set-same, getD-set-other}
 use Rattle.std.proofs.shelf.Tests.{cases-lt, cases-eq}
-use Rattle.duplex.specs.State.{bit, at, state}
+use Rattle.duplex.specs.State.{bit}
 use Rattle.duplex.proofs.StateLaws.{at-state, state-ext}
 use Rattle.words.specs.Packing.{word-bit, cells, rotated}
 use Rattle.words.proofs.BitLaws.{or-first, or-second, bit-past, bit-shr, shl-low, shl-high}

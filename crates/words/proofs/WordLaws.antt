@@ -1,19 +1,18 @@
 -- The state that nine words hold: a bit added, every bit at once, and all zero.
-use Prim.Native.Nat.{ℕ, zero, suc, _+_, _-_, _*_, _/_, _%_, _^_, _<_}
-use mathlib.Core.Path.{_≡_, refl, sym, ap, subst, _∙_}
+use Prim.Native.Nat.{ℕ, zero, _+_, _*_, _/_, _%_, _^_, _<_}
+use mathlib.Core.Path.{_≡_, sym, ap, subst, _∙_}
 use mathlib.Core.Logic.{⊎-elim}
 use mathlib.Core.List.{List}
-use native.Mathlib.Nat.{mul-one, mod-eq-of-lt}
 use native.Mathlib.Omega.{arith}
 use lib.ListN.{length, getD, set, replicate, length-set}
-use lib.Bits.{bitAnd, bitXor, xor-zero-l, xor-zero-r, and-lt}
+use lib.Bits.{bitXor, xor-zero-r}
 use Rattle.std.proofs.shelf.Bits.{xor-lt}
 use Rattle.std.proofs.shelf.Lists.{getD-set-same, getD-set-other, getD-replicate, length-replicate}
 use Rattle.std.proofs.shelf.Tests.{cases-eq}
 use Rattle.duplex.specs.State.{IsState, bit, at, state, zeros, add-at}
-use Rattle.duplex.proofs.StateLaws.{at-state, state-ext, getD-state, length-state, state-all, state-is}
+use Rattle.duplex.proofs.StateLaws.{at-state, state-ext, getD-state, state-all, state-is}
 use Rattle.words.specs.Packing.{word-bit, cells, rotated, mixed}
-use Rattle.words.proofs.BitLaws.{bit-xor, bit-and, bit-zero, single-here, single-other, chi-form}
+use Rattle.words.proofs.BitLaws.{bit-xor, bit-zero, single-here, single-other}
 use Rattle.words.proofs.ModLaws.{mod-cong}
 
 pub cells-state : (ws : List ℕ) → IsState (cells ws)

@@ -2,7 +2,7 @@
 ghost use mathlib.Core.Path.{_≡_};
 ghost use Prim.Native.Nat.{ℕ, _<_};
 ghost use Rattle.duplex.specs.State.{bit, pi};
-ghost use Rattle.words.specs.Packing.{cells, mixed, chi-rule, chi-by, theta-rule, theta-by, round-by};
+ghost use Rattle.words.specs.Packing.{cells, mixed, chi-rule, theta-rule, round-by};
 use crate::residue::Residue;
 use crate::row::Row;
 use crate::vector::Words;

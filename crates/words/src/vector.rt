@@ -2,7 +2,7 @@
 ghost use mathlib.Core.Path.{_≡_};
 ghost use Prim.Native.Nat.{_%_, _<_};
 ghost use lib.ListN.{length, getD};
-ghost use Rattle.duplex.specs.State.{zeros, add-at, pi};
+ghost use Rattle.duplex.specs.State.{zeros, add-at};
 ghost use Rattle.words.specs.Packing.{cells, rotated};
 use crate::residue::Residue;
 use crate::row::Row;

@@ -1,6 +1,6 @@
 -- The round at the factor of the count, the injection at that of the next count.
-use Prim.Native.Nat.{_+_, _*_, _%_, _^_}
-use mathlib.Core.Path.{_≡_, sym, ap, _∙_}
+use Prim.Native.Nat.{_^_}
+use mathlib.Core.Path.{sym, ap, _∙_}
 use Rattle.words.specs.Packing.{cells, inject-by}
 use Rattle.postponed.specs.Powers.{power-of-12}
 use Rattle.postponed.specs.Stretch.{stretch}

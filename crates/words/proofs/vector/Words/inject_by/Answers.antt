@@ -1,5 +1,5 @@
 -- Each turn adds one bit at the place of its position.
-use Prim.Native.Nat.{_+_, _-_, _*_, _/_, _%_, _^_, _<_}
+use Prim.Native.Nat.{_+_, _-_, _/_, _%_, _^_}
 use mathlib.Core.Path.{_≡_, refl, sym, ap, _∙_}
 use native.Mathlib.Omega.{arith}
 use lib.Bits.{bitAnd}
