@@ -14,7 +14,7 @@ pub struct Postponed {
 }
 
 pub impl Engine for Postponed as PostponedEngine {
-    ghost bits = { λ e. stretch (12 ^ e .count .value) (cells (e .words .words)) };
+    ghost bits = { λ e. stretch (12 ^ e .count .value) (cells (e .words .array)) };
 
     fn new() -> Postponed {
         Postponed {
@@ -36,6 +36,9 @@ pub impl Engine for Postponed as PostponedEngine {
     }
 
     fn copy(&self) -> Postponed {
-        *self
+        Postponed {
+            words: self.words,
+            count: self.count,
+        }
     }
 }

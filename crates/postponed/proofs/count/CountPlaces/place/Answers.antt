@@ -1,5 +1,5 @@
 -- The factor times a position is the power that stands four times as far on.
-use Prim.Native.Nat.{_+_, _*_, _%_, _<_}
+use Prim.Native.Nat.{_<_}
 use mathlib.Core.Path.{sym, subst, _∙_}
 use native.Mathlib.Omega.{arith}
 use Rattle.postponed.proofs.PowerLaws.{place-power, power-positive}
