@@ -30,7 +30,7 @@ impl Row {
         Row { array }
     }
 
-    // The 257 bits from bit d on.
+    // Bit i of the result is bit (i + d) mod 257.
     pub fn rotate(&self, d: Residue) -> Words
         ensures { λ r. ⌜ cells (r .array) ≡ rotated (d .value) (cells (now (self .entry) .array)) ⌝ }
     {

@@ -3,9 +3,8 @@ ghost use mathlib.Core.Path.{_≡_};
 ghost use Prim.Native.Nat.{_%_, _<_};
 ghost use lib.ListN.{length, getD};
 ghost use Rattle.duplex.specs.State.{zeros, add-at};
-ghost use Rattle.words.specs.Packing.{cells, rotated};
+ghost use Rattle.words.specs.Packing.{cells};
 use crate::residue::Residue;
-use crate::row::Row;
 
 // The 31 high bits of the last word are zero.
 #[derive(Clone, Copy)]
@@ -34,12 +33,5 @@ impl Words {
         ensures { λ _. ⌜ cells (now (self .exit) .array) ≡ add-at (cells (now (self .entry) .array)) (p .value) (b % 2) ⌝ }
     {
         self.array[(p.value / 32) as usize] ^= (b & 1) << (p.value % 32);
-    }
-
-    // Bit i of the result is bit i + d.
-    pub fn rotate(&self, d: Residue) -> Words
-        ensures { λ r. ⌜ cells (r .array) ≡ rotated (d .value) (cells (now (self .entry) .array)) ⌝ }
-    {
-        Row::new(self).rotate(d)
     }
 }
