@@ -2,10 +2,12 @@
 mod buffer;
 mod carry;
 mod reading;
+mod run;
 mod terms;
 
 pub use buffer::Buffer;
 pub use carry::interpret;
 pub use reading::parse;
+pub use run::Console;
 pub use terms::Command;
 pub use terms::Fault;

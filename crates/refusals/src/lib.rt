@@ -2,9 +2,11 @@
 
 #[derive(Clone, Copy)]
 pub enum Layer {
-    Bench,
+    Session,
+    Link,
     Digest,
     Deck,
+    Bench,
 }
 
 #[derive(Clone, Copy)]

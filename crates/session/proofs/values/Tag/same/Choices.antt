@@ -1,0 +1,5 @@
+use Rattle.session.proofs.Differences.{Folds}
+use Rattle.session.proofs.values.Tag.same.Given as given
+
+abbrev pub Inv-loop-i : given.InvT-loop-i
+Inv-loop-i l = Folds (l .differences) (l .i) (l .self .bytes) (l .other .bytes)

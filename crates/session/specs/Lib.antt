@@ -1,0 +1,4 @@
+pub mod Refusals
+pub mod Sessions
+pub mod Calls
+pub mod Figures
