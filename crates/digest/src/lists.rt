@@ -4,6 +4,8 @@ use crate::work;
 use digests::Entry;
 use std::env::Args;
 use std::error::AnyError;
+use std::io::BufRead;
+use std::io::BufReader;
 use std::io::BufWriter;
 use std::io::Write;
 use std::rt::Stdout;
@@ -17,16 +19,45 @@ struct Strings {
     entries: Vec<Entry>,
 }
 
+// Appends the bytes of an argument; `what` names it where it is no hex.
+fn push_argument(
+    rt: &LibcRuntime,
+    bytes: &mut Vec<u8>,
+    what: &str,
+    digits: &str,
+) -> Result<(), AnyError> {
+    match hex::push_bytes(bytes, digits) {
+        Ok(()) => Ok(()),
+        Err(error) => Err(format!(rt.alloc(), "{what}: {error}")?.into()),
+    }
+}
+
 fn read_strings(rt: &LibcRuntime, args: Args) -> Result<Strings, AnyError> {
     let mut buffer = Vec::new(rt.alloc());
     let mut entries = Vec::new(rt.alloc());
     for digits in args {
         let start = buffer.len();
         let length = digits.len() / 2;
-        hex::push_bytes(&mut buffer, digits.as_str())?;
+        push_argument(rt, &mut buffer, digits.as_str(), digits.as_str())?;
         entries.push(Entry { start, length })?;
     }
     Ok(Strings { buffer, entries })
+}
+
+// The key of the next argument. An error does not show it.
+fn read_key(rt: &LibcRuntime, args: &mut Args) -> Result<Vec<u8>, AnyError> {
+    let Some(mut digits) = args.next() else {
+        return Err("no KEY; try --help".into());
+    };
+    if digits.as_str() == "-" {
+        let Some(line) = BufReader::new(rt.stdin()).lines(rt.alloc()).next() else {
+            return Err("KEY: standard input is empty".into());
+        };
+        digits = line?;
+    }
+    let mut key = Vec::new(rt.alloc());
+    push_argument(rt, &mut key, "KEY", digits.as_str())?;
+    Ok(key)
 }
 
 // As many zeros as the next argument says.
@@ -34,11 +65,10 @@ fn room(rt: &LibcRuntime, args: &mut Args) -> Result<Vec<u8>, AnyError> {
     let Some(text) = args.next() else {
         return Err("no LENGTH; try --help".into());
     };
-    let length = text.as_str().parse::<usize>()?;
-    if length > MOST_BYTES {
-        return Err("a LENGTH above 1048576".into());
+    match text.as_str().parse::<usize>() {
+        Ok(length) if length <= MOST_BYTES => Ok(vec![in rt.alloc(); 0; length]?),
+        _ => Err(format!(rt.alloc(), "{text}: no LENGTH from 0 to {MOST_BYTES}")?.into()),
     }
-    Ok(vec![in rt.alloc(); 0; length]?)
 }
 
 fn print_bytes(out: &mut BufWriter<Stdout>, bytes: &[u8]) -> Result<(), AnyError> {
@@ -67,11 +97,7 @@ pub fn derive_key(
     out: &mut BufWriter<Stdout>,
     mut args: Args,
 ) -> Result<(), AnyError> {
-    let Some(digits) = args.next() else {
-        return Err("no KEY; try --help".into());
-    };
-    let mut key = Vec::new(rt.alloc());
-    hex::push_bytes(&mut key, digits.as_str())?;
+    let key = read_key(rt, &mut args)?;
     let mut derived = room(rt, &mut args)?;
     let strings = read_strings(rt, args)?;
     match work::deck_list(&key, &strings.buffer, &strings.entries, &mut derived) {

@@ -24,18 +24,32 @@ Without a FILE, or where FILE is -, reads standard input. A file is one string o
   strings   prints LENGTH bytes of the digest of a list of strings
   derive    prints LENGTH bytes that the deck function gives for a key and a list of strings
 
-KEY and each STRING are hex digits, two for a byte, and may be empty.
+KEY and each STRING are hex digits, two for a byte, and may be empty. Where KEY is -, it is
+the first line of standard input, so that no list of processes shows it.
 docs/DIGEST.md has all rules.";
 
-fn print_lines(rt: &LibcRuntime, out: &mut BufWriter<Stdout>, first: &str, args: Args) -> Result<(), AnyError> {
+fn print_lines(
+    rt: &LibcRuntime,
+    out: &mut BufWriter<Stdout>,
+    first: &str,
+    args: Args,
+) -> Result<(), AnyError> {
     let mut all = sums::print_line(rt, out, first)?;
     for name in args {
         all = sums::print_line(rt, out, name.as_str())? && all;
     }
-    if all { Ok(()) } else { Err("not every file was read".into()) }
+    if all {
+        Ok(())
+    } else {
+        Err("not every file was read".into())
+    }
 }
 
-fn check_lists(rt: &LibcRuntime, out: &mut BufWriter<Stdout>, mut args: Args) -> Result<(), AnyError> {
+fn check_lists(
+    rt: &LibcRuntime,
+    out: &mut BufWriter<Stdout>,
+    mut args: Args,
+) -> Result<(), AnyError> {
     let mut all = match args.next() {
         Some(list) => sums::check_list(rt, out, list.as_str())?,
         None => sums::check_list(rt, out, "-")?,
@@ -43,7 +57,11 @@ fn check_lists(rt: &LibcRuntime, out: &mut BufWriter<Stdout>, mut args: Args) ->
     for list in args {
         all = sums::check_list(rt, out, list.as_str())? && all;
     }
-    if all { Ok(()) } else { Err("not every file is as listed".into()) }
+    if all {
+        Ok(())
+    } else {
+        Err("not every file is as listed".into())
+    }
 }
 
 fn run(rt: &LibcRuntime, out: &mut BufWriter<Stdout>) -> Result<(), AnyError> {
@@ -57,7 +75,13 @@ fn run(rt: &LibcRuntime, out: &mut BufWriter<Stdout>) -> Result<(), AnyError> {
         "-c" | "--check" => check_lists(rt, out, args),
         "strings" => lists::digest_strings(rt, out, args),
         "derive" => lists::derive_key(rt, out, args),
-        name => print_lines(rt, out, name, args),
+        "-" => print_lines(rt, out, "-", args),
+        name => {
+            if name.starts_with('-') {
+                return Err(format!(rt.alloc(), "unknown option {name}; try --help")?.into());
+            }
+            print_lines(rt, out, name, args)
+        }
     }
 }
 
@@ -69,5 +93,9 @@ fn start(rt: &LibcRuntime) -> Result<(), AnyError> {
 }
 
 fn main(rt: LibcRuntime) -> Result<(), AnyError> {
-    rt.report(start(&rt))
+    let done = start(&rt);
+    if let Err(error) = &done {
+        eprintln!(rt, "digest: {error}")?;
+    }
+    done
 }

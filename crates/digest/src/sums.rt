@@ -23,6 +23,10 @@ fn digest_file(rt: &LibcRuntime, name: &str) -> io::Result<[u8; 32]> {
     }
 }
 
+fn complain(rt: &LibcRuntime, name: &str, error: &io::Error) -> io::Result<()> {
+    eprintln!(rt, "digest: {name}: {error}")
+}
+
 // Prints the line of a file, or says why there is none. Answers whether it printed one.
 pub fn print_line(rt: &LibcRuntime, out: &mut BufWriter<Stdout>, name: &str) -> io::Result<bool> {
     match digest_file(rt, name) {
@@ -32,7 +36,7 @@ pub fn print_line(rt: &LibcRuntime, out: &mut BufWriter<Stdout>, name: &str) -> 
             Ok(true)
         }
         Err(error) => {
-            eprintln!(rt, "digest: {name}: {error}")?;
+            complain(rt, name, &error)?;
             Ok(false)
         }
     }
@@ -62,7 +66,7 @@ fn check_line(rt: &LibcRuntime, out: &mut BufWriter<Stdout>, line: &str) -> Resu
             Ok(same)
         }
         Err(error) => {
-            eprintln!(rt, "digest: {name}: {error}")?;
+            complain(rt, name, &error)?;
             writeln!(out, "{name}: FAILED open or read")?;
             Ok(false)
         }
@@ -88,14 +92,27 @@ fn check_lines<R: Read + Drop>(
             }
         }
     }
+    if number == 0 {
+        eprintln!(rt, "digest: {list}: an empty list")?;
+        all = false;
+    }
     Ok(all)
 }
 
 // The same of a list by its name.
-pub fn check_list(rt: &LibcRuntime, out: &mut BufWriter<Stdout>, list: &str) -> Result<bool, AnyError> {
+pub fn check_list(
+    rt: &LibcRuntime,
+    out: &mut BufWriter<Stdout>,
+    list: &str,
+) -> Result<bool, AnyError> {
     if list == STDIN {
-        check_lines(rt, out, list, rt.stdin())
-    } else {
-        check_lines(rt, out, list, fs::open(rt, list)?)
+        return check_lines(rt, out, list, rt.stdin());
+    }
+    match fs::open(rt, list) {
+        Ok(input) => check_lines(rt, out, list, input),
+        Err(error) => {
+            complain(rt, list, &error)?;
+            Ok(false)
+        }
     }
 }
