@@ -20,9 +20,13 @@ appended s t = steps s (byte-blocks t)
 unfoldable pub ended : List ℕ → List ℕ
 ended s = steps s ([] ∷ [] ∷ [])
 
--- the bits from which a finished digest squeezes: a string that has begun is ended first
+-- the bits once a string that has begun is ended
+abbrev pub all-ended : List ℕ → Bool → List ℕ
+all-ended s begun = cond begun (ended s) s
+
+-- the bits from which a finished digest squeezes
 unfoldable pub finished : List ℕ → Bool → List ℕ
-finished s begun = blanked (cond begun (ended s) s) 8
+finished s begun = blanked (all-ended s begun) 8
 
 abbrev pub some-bytes : List ℕ → Bool
 some-bytes [] = false

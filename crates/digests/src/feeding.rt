@@ -4,7 +4,7 @@ ghost use mathlib.Core.Bool.{false, _||_};
 ghost use lib.ListN.{length};
 ghost use Rattle.duplex.specs.State.{zeros};
 ghost use Rattle.duplex.specs.Strings.{squeezed, drained};
-ghost use Rattle.digests.specs.Feeding.{appended, ended, finished, some-bytes};
+ghost use Rattle.digests.specs.Feeding.{appended, ended, all-ended, finished, some-bytes};
 use duplex::Engine;
 use strings::Duplex;
 
@@ -62,15 +62,22 @@ impl<E: Engine> Feeding<E> {
     pub fn finish(mut self) -> Squeezing<E>
         ensures { λ r. ⌜ E·Engine .bits (r .duplex .engine) ≡ finished (E·Engine .bits (self .duplex .engine)) (self .begun) ⌝ }
     {
-        if self.begun {
-            self.end_string();
-        }
+        self.end_begun();
         let Feeding {
             mut duplex,
             begun: _,
         } = self;
         duplex.blank(8);
         Squeezing { duplex }
+    }
+
+    // Ends a string that has begun.
+    fn end_begun(&mut self)
+        ensures { λ _. ⌜ E·Engine .bits (now (self .exit) .duplex .engine) ≡ all-ended (E·Engine .bits (now (self .entry) .duplex .engine)) (now (self .entry) .begun) ⌝ }
+    {
+        if self.begun {
+            self.end_string();
+        }
     }
 }
 
