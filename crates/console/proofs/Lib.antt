@@ -2,3 +2,4 @@ mod LineLaws
 mod BufferLaws
 mod Bounds
 mod RunLaws
+mod WritingLaws

@@ -3,4 +3,5 @@ pub mod Lines
 pub mod Buffers
 pub mod Replies
 pub mod Runs
+pub mod Writing
 pub mod Example
