@@ -1,1 +1,2 @@
+pub mod HexLaws
 pub mod SealedBytes

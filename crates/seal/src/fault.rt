@@ -1,7 +1,8 @@
 // Why the program refuses.
+ghost use mathlib.Core.Path.{_≡_};
+ghost use Rattle.seal.specs.declared.fault.Fault.the-variants.{Session as Inner, Memory};
 use session::SessionFault;
 use std::alloc::AllocError;
-use std::alloc::Refused;
 use std::fmt;
 use std::io;
 
@@ -31,16 +32,32 @@ pub impl fmt::Display for Word as WordDisplay {
     }
 }
 
+// What spoils a word of hex digits.
+#[derive(Clone, Copy)]
+pub enum HexFault {
+    // a byte that is no digit
+    Digit { column: usize },
+    // an odd count of digits; the column past the end
+    Odd { column: usize },
+    // other than 32 digits
+    Count { digits: usize },
+}
+
+pub impl fmt::Display for HexFault as HexFaultDisplay {
+    fn fmt<W: fmt::Write>(&self, f: &mut fmt::Formatter<W>) -> fmt::Result {
+        match self {
+            HexFault::Digit { column } => write!(f, "column {column} is no hex digit"),
+            HexFault::Odd { column } => write!(f, "a digit is missing at column {column}"),
+            HexFault::Count { digits } => write!(f, "{digits} hex digits where 32 are wanted"),
+        }
+    }
+}
+
 #[derive(Drop)]
 pub enum Fault {
     // not the words that --help lists
     Usage,
-    // a byte that is no hex digit
-    Digit { word: Word, column: usize },
-    // an odd count of digits
-    Odd { word: Word, column: usize },
-    // other than 32 digits
-    Count { word: Word, digits: usize },
+    Hex { word: Word, fault: HexFault },
     // a file that cannot hold a tag
     Tagless { length: usize },
     Session(SessionFault),
@@ -49,19 +66,17 @@ pub enum Fault {
 }
 
 pub impl From<SessionFault> for Fault as FaultFromSession {
-    fn from(fault: SessionFault) -> Fault {
-        Fault::Session(fault)
+    ghost converts = { λ inner r. r ≡ Inner inner };
+
+    fn from(inner: SessionFault) -> Fault {
+        Fault::Session(inner)
     }
 }
 
 pub impl From<AllocError> for Fault as FaultFromAlloc {
-    fn from(_: AllocError) -> Fault {
-        Fault::Memory
-    }
-}
+    ghost converts = { λ _ r. r ≡ Memory };
 
-pub impl From<Refused<u8>> for Fault as FaultFromRefused {
-    fn from(_: Refused<u8>) -> Fault {
+    fn from(_: AllocError) -> Fault {
         Fault::Memory
     }
 }
@@ -70,13 +85,7 @@ pub impl fmt::Display for Fault as FaultDisplay {
     fn fmt<W: fmt::Write>(&self, f: &mut fmt::Formatter<W>) -> fmt::Result {
         match self {
             Fault::Usage => f.write_str("wrong arguments; try seal --help"),
-            Fault::Digit { word, column } => write!(f, "{word}: column {column} is no hex digit"),
-            Fault::Odd { word, column } => {
-                write!(f, "{word}: a digit is missing at column {column}")
-            }
-            Fault::Count { word, digits } => {
-                write!(f, "{word}: {digits} hex digits where 32 are wanted")
-            }
+            Fault::Hex { word, fault } => write!(f, "{word}: {fault}"),
             Fault::Tagless { length } => {
                 write!(f, "IN: {length} bytes, fewer than the 16 of a tag")
             }

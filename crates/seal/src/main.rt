@@ -26,25 +26,34 @@ KEY and NONCE are 32 hex digits each, AD an even number of them or '' for none. 
 two files under the same key and nonce. A refusal says why, ends with status 1, and leaves
 OUT alone.";
 
+// What is done to the bytes of a file.
+#[derive(Clone, Copy)]
+enum Task {
+    Seal,
+    Open,
+}
+
+fn task_of(word: &str) -> Result<Task, Fault> {
+    match word {
+        "seal" => Ok(Task::Seal),
+        "open" => Ok(Task::Open),
+        _ => Err(Fault::Usage),
+    }
+}
+
 // Carries out the command of these words.
 fn carry_out(rt: &LibcRuntime, words: &[String]) -> Result<(), Fault> {
     let [verb, key, nonce, ad, from, to] = words else {
         return Err(Fault::Usage);
     };
     let heap = rt.alloc();
+    let task = task_of(verb.as_str())?;
+    let key = sixteen(Word::Key, key.as_str())?;
+    let nonce = sixteen(Word::Nonce, nonce.as_str())?;
     let secret = Secret {
-        key: Key {
-            bytes: sixteen(heap, Word::Key, key.as_str())?,
-        },
-        nonce: Nonce {
-            bytes: sixteen(heap, Word::Nonce, nonce.as_str())?,
-        },
+        key: Key { bytes: key },
+        nonce: Nonce { bytes: nonce },
         ad: bytes(heap, Word::Ad, ad.as_str())?,
-    };
-    let seals = match verb.as_str() {
-        "seal" => true,
-        "open" => false,
-        _ => return Err(Fault::Usage),
     };
     let input = match fs::read(rt, from.as_str()) {
         Ok(input) => input,
@@ -53,19 +62,16 @@ fn carry_out(rt: &LibcRuntime, words: &[String]) -> Result<(), Fault> {
             error,
         }),
     };
-    let output = if seals {
-        sealed::seal(heap, &secret, input.as_slice())?
-    } else {
-        sealed::open(heap, &secret, input.as_slice())?
+    let (done, output) = match task {
+        Task::Seal => ("sealed", sealed::seal(heap, &secret, input.as_slice())?),
+        Task::Open => ("opened", sealed::open(heap, &secret, input.as_slice())?),
     };
-    match fs::write(rt, to.as_str(), output.as_slice()) {
-        Ok(()) => {}
-        Err(error) => return Err(Fault::File {
+    if let Err(error) = fs::write(rt, to.as_str(), output.as_slice()) {
+        return Err(Fault::File {
             word: Word::Out,
             error,
-        }),
+        });
     }
-    let done = if seals { "sealed" } else { "opened" };
     let (given, made) = (input.len(), output.len());
     match println!(rt, "{done} {from}, {given} bytes, into {to}, {made} bytes") {
         Ok(()) => Ok(()),

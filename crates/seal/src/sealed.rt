@@ -1,9 +1,10 @@
 // Sealed bytes: a ciphertext, and its tag after it.
 ghost use mathlib.Core.Path.{_≡_};
 ghost use Rattle.std.specs.Of.Vec.{vec-items};
-ghost use Rattle.std.specs.Vec.{made};
+ghost use Rattle.std.specs.Results.{Cases};
 ghost use Rattle.session.specs.Sessions.{begun};
-ghost use Rattle.seal.specs.Bytes.{sealed-bytes};
+ghost use Rattle.seal.specs.Bytes.{sealed-bytes, NotOpened};
+ghost use Rattle.seal.specs.declared.fault.Fault.the-variants.{Memory};
 use crate::fault::Fault;
 use crate::fault::FaultFromAlloc;
 use crate::fault::FaultFromSession;
@@ -23,7 +24,7 @@ pub struct Secret {
 }
 
 pub fn seal(heap: Global, secret: &Secret, text: &[u8]) -> Result<Vec<u8>, Fault>
-    ensures { λ r. ⌜ made r (λ v. vec-items v ≡ sealed-bytes (begun (now (secret .entry) .key .bytes) (now (secret .entry) .nonce .bytes)) (vec-items (now (secret .entry) .ad)) (now (text .entry))) ⌝ }
+    ensures { λ r. ⌜ Cases r (λ v. vec-items v ≡ sealed-bytes (begun (now (secret .entry) .key .bytes) (now (secret .entry) .nonce .bytes)) (vec-items (now (secret .entry) .ad)) (now (text .entry))) (λ e. e ≡ Memory) ⌝ }
 {
     let mut session = Session::<Plain>::begin(&secret.key, &secret.nonce);
     let mut sealed = vec![in heap; 0; text.len()]?;
@@ -35,7 +36,7 @@ pub fn seal(heap: Global, secret: &Secret, text: &[u8]) -> Result<Vec<u8>, Fault
 
 // What opens is what sealing these bytes gives.
 pub fn open(heap: Global, secret: &Secret, sealed: &[u8]) -> Result<Vec<u8>, Fault>
-    ensures { λ r. ⌜ made r (λ v. now (sealed .entry) ≡ sealed-bytes (begun (now (secret .entry) .key .bytes) (now (secret .entry) .nonce .bytes)) (vec-items (now (secret .entry) .ad)) (vec-items v)) ⌝ }
+    ensures { λ r. ⌜ Cases r (λ v. now (sealed .entry) ≡ sealed-bytes (begun (now (secret .entry) .key .bytes) (now (secret .entry) .nonce .bytes)) (vec-items (now (secret .entry) .ad)) (vec-items v)) (NotOpened (begun (now (secret .entry) .key .bytes) (now (secret .entry) .nonce .bytes)) (vec-items (now (secret .entry) .ad)) (now (sealed .entry))) ⌝ }
 {
     if sealed.len() < 16 {
         return Err(Fault::Tagless {
