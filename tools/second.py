@@ -1,10 +1,10 @@
 #!/usr/bin/env python3
-"""A second bench program, written from docs/SUITE.md and docs/BENCH.md alone.
+"""A second program, written from the rules under docs/ alone.
 
 It works on a list of 257 single bits and follows the documents' words, not
 any other program. Other tools may import it: chi, iota, theta and pi are
 functions on such a list, a Duplex is a state with the suite's operations, and
-a Session seals and opens by docs/SESSION.md.
+a Session seals and opens.
 """
 
 import sys
@@ -189,6 +189,26 @@ class Session:
         if self.tag() != tag:
             raise TagDiffers
         return text
+
+
+# --- Digest and deck -------------------------------------------------------
+
+def digest(strings: list[bytes], count: int) -> bytes:
+    """So many bytes of the digest of a list of strings."""
+    duplex = Duplex()
+    for string in strings:
+        duplex.absorb_unkeyed(string)
+    duplex.blank(8)
+    return duplex.squeeze(count)
+
+
+def deck(key: bytes, strings: list[bytes], count: int) -> bytes:
+    """So many bytes that the deck function gives for a key and strings."""
+    duplex = Duplex()
+    for string in [key, *strings]:
+        duplex.absorb(string)
+    duplex.blank(8)
+    return duplex.squeeze(count)
 
 
 # --- The bench program -----------------------------------------------------

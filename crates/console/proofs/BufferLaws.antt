@@ -12,7 +12,7 @@ use Rattle.console.specs.declared.buffer.Buffer.{Buffer}
 use Rattle.console.specs.Buffers.{held, kept, hex}
 use Rattle.console.specs.Replies.{refused, line-feed}
 
-take-front : (n : ℕ) (xs ys : List ℕ) → take n (take n xs ++ ys) ≡ take n (xs ++ ys)
+pub take-front : (n : ℕ) (xs ys : List ℕ) → take n (take n xs ++ ys) ≡ take n (xs ++ ys)
 take-front zero xs ys = refl
 take-front (suc n) [] ys = refl
 take-front (suc n) (x ∷ xs) ys = ap (λ l. x ∷ l) (take-front n xs ys)

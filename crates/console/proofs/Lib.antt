@@ -1,3 +1,4 @@
 mod LineLaws
 mod BufferLaws
 mod Bounds
+mod RunLaws

@@ -3,6 +3,9 @@
 #[derive(Clone, Copy)]
 pub enum Layer {
     Session,
+    Link,
+    Digest,
+    Deck,
     Bench,
 }
 

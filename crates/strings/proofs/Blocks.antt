@@ -7,7 +7,8 @@ use native.Mathlib.Omega.{arith}
 use borrow.Rule.Slice.PartMut.{putMid}
 use lib.Bits.{bitXor, xor-assoc, xor-self, xor-zero-r}
 use lib.ListN.{length, getD, set, take, drop, replicate}
-use Rattle.std.proofs.shelf.Lists.{append-assoc, append-nil, take-append-drop, drop-drop, drop-all, length-take, length-drop, take-rest, take-more-set, drop-set-lt, drop-more}
+use Rattle.std.proofs.shelf.Lanes.{chunk-drop}
+use Rattle.std.proofs.shelf.Lists.{append-assoc, append-nil, take-append-drop, take-all, drop-all, length-take, length-drop, take-rest, take-more-set, drop-set-lt, drop-more}
 use Rattle.std.proofs.shelf.Parts.{take-putMid, drop-putMid}
 use Rattle.duplex.specs.State.{step, reading}
 use Rattle.duplex.specs.Strings.{padded, blocks, steps, absorbed, masked, text-blocks, cipher-blocks, enciphered, deciphered}
@@ -20,17 +21,20 @@ from-bytes b =
     getD b 0 0 + getD b 1 0 * 256 + getD b 2 0 * 65536 + getD b 3 0 * 16777216 + getD b 4 0 * 4294967296 + getD b 5 0 * 1099511627776
     + getD b 6 0 * 281474976710656 + getD b 7 0 * 72057594037927936
 
--- a block, a 1 after it, and zeros
-abbrev pub laid : ℕ → List ℕ → ℕ
+-- a block, a 1 at n and zeros
+abbrev laid : ℕ → List ℕ → ℕ
 laid n xs = from-bytes (set (xs ++ drop (n - 0) (replicate 8 0)) n 1)
 
-pub laid-padded : (xs : List ℕ) → length xs ≤ 4 → laid (length xs) xs ≡ padded xs
+laid-padded : (xs : List ℕ) → length xs ≤ 4 → laid (length xs) xs ≡ padded xs
 laid-padded [] h = refl
 laid-padded (a ∷ []) h = omega arith
 laid-padded (a ∷ b ∷ []) h = omega arith
 laid-padded (a ∷ b ∷ c ∷ []) h = omega arith
 laid-padded (a ∷ b ∷ c ∷ d ∷ []) h = omega arith
 laid-padded (a ∷ b ∷ c ∷ d ∷ e ∷ xs) h = absurd (omega arith)
+
+pub number-padded : (xs ys : List ℕ) (n : ℕ) → length xs ≤ 4 → ys ≡ xs → n ≡ laid (length xs) ys → n ≡ padded xs
+number-padded xs ys n h e f = f ∙ (ap (laid (length xs)) e ∙ laid-padded xs h)
 
 -- The sum of a block and a word.
 
@@ -41,6 +45,9 @@ masked-turn b w i h =
     ap₂ (λ p r. p ++ masked (w / 256) r) (take-more-set b i v h) (drop-set-lt (i + 1) b i v (omega arith))
     ∙ append-assoc (take i b) (v ∷ []) (masked (w / 256) (drop (i + 1) b))
     ∙ ap (λ r. take i b ++ masked w r) (sym (drop-more b i 0 h))
+
+pub masked-end : (b : List ℕ) (w i : ℕ) → length b ≤ i → b ≡ take i b ++ masked w (drop i b)
+masked-end b w i h = sym (ap₂ (λ p r. p ++ masked w r) (take-all i b h) (drop-all i b h) ∙ append-nil b)
 
 length-masked : (w : ℕ) (b : List ℕ) → length (masked w b) ≡ length b
 length-masked w [] = refl
@@ -74,17 +81,21 @@ absorbed-more : (s x r : List ℕ) → length x ≡ 4 → absorbed s (x ++ r) �
 unfolding absorbed
 absorbed-more s x r h = ap (steps s) (blocks-more x r h)
 
-pub absorbed-last : (s x : List ℕ) → length x < 4 → absorbed s x ≡ step s (padded x)
+absorbed-last : (s x : List ℕ) → length x < 4 → absorbed s x ≡ step s (padded x)
 unfolding absorbed
 absorbed-last s x h = ap (steps s) (blocks-last x h)
 
 -- the turn of a loop that steps with `&xs[0..4]` and goes on with `&xs[4..]`
-pub absorbed-turn : (s xs : List ℕ) → 4 ≤ length xs → absorbed (step s (padded (take 4 xs))) (take (length xs - 4) (drop 4 xs)) ≡ absorbed s xs
-absorbed-turn s xs h =
-    ap (absorbed (step s (padded (take 4 xs)))) (take-rest xs 4)
+pub absorbed-turn : (s s′ xs : List ℕ) → 4 ≤ length xs → s′ ≡ step s (padded (take 4 xs)) → absorbed s′ (take (length xs - 4) (drop 4 xs)) ≡ absorbed s xs
+absorbed-turn s s′ xs h e =
+    ap₂ absorbed e (take-rest xs 4)
     ∙ (sym (absorbed-more s (take 4 xs) (drop 4 xs) (simp length-take (omega arith))) ∙ ap (absorbed s) (take-append-drop 4 xs))
 
--- Encrypting and decrypting, which differ in the text: what came, or what is given out.
+-- the end, with a step with the rest
+pub absorbed-end : (s s′ xs : List ℕ) → length xs < 4 → s′ ≡ step s (padded xs) → s′ ≡ absorbed s xs
+absorbed-end s s′ xs h e = e ∙ sym (absorbed-last s xs h)
+
+-- Encrypting and decrypting. They differ in which block is the text: the one that comes, or the sum.
 
 abbrev pub crypted : Bool → List ℕ → List ℕ → List ℕ
 crypted d s t = cond d (deciphered s t) (enciphered s t)
@@ -92,11 +103,11 @@ crypted d s t = cond d (deciphered s t) (enciphered s t)
 abbrev pub text-of : Bool → List ℕ → List ℕ → List ℕ
 text-of d s t = cond d (deciphered s t) t
 
--- the state after a block x that becomes m
+-- the state after a block x with the sum m
 abbrev moved : Bool → List ℕ → List ℕ → List ℕ → List ℕ
 moved d s x m = step s (padded (cond d m x))
 
-crypted-more : (d : Bool) (s x r : List ℕ) → length x ≡ 4 → crypted d s (x ++ r) ≡ masked (reading s) x ++ crypted d (moved d s x (masked (reading s) x)) r
+crypted-more : (d : Bool) (s x r : List ℕ) → length x ≡ 4 → (let m = masked (reading s) x in crypted d s (x ++ r) ≡ m ++ crypted d (moved d s x m) r)
 unfolding enciphered deciphered
 crypted-more true s x r h = ap (text-blocks s) (blocks-more x r h)
 crypted-more false s x r h = ap (cipher-blocks s) (blocks-more x r h)
@@ -107,7 +118,7 @@ crypted-last true s x h = ap (text-blocks s) (blocks-last x h) ∙ append-nil (m
 crypted-last false s x h = ap (cipher-blocks s) (blocks-last x h) ∙ append-nil (masked (reading s) x)
 
 moved-more : (d : Bool) (s x r : List ℕ) → length x ≡ 4
-    → absorbed s (text-of d s (x ++ r)) ≡ (let s′ = moved d s x (masked (reading s) x) in absorbed s′ (text-of d s′ r))
+    → (let s′ = moved d s x (masked (reading s) x) in absorbed s (text-of d s (x ++ r)) ≡ absorbed s′ (text-of d s′ r))
 moved-more true s x r h =
     ap (absorbed s) (crypted-more true s x r h) ∙ absorbed-more s (masked (reading s) x) _ (length-masked (reading s) x ∙ h)
 moved-more false s x r h = absorbed-more s x r h
@@ -116,31 +127,34 @@ moved-last : (d : Bool) (s x : List ℕ) → length x < 4 → absorbed s (text-o
 moved-last true s x h = ap (absorbed s) (crypted-last true s x h) ∙ absorbed-last s (masked (reading s) x) (simp length-masked h)
 moved-last false s x h = absorbed-last s x h
 
+-- what precedes the end of a part that becomes m
+pub written : (xs m r : List ℕ) (i p : ℕ) → i ≤ length xs → length m ≡ p → take (i + p) (putMid i (i + p - i) xs m) ++ r ≡ take i xs ++ (m ++ r)
+written xs m r i p h e =
+    ap (λ f. f ++ r) (take-putMid i (i + p - i) xs m (i + p) (omega arith) h) ∙ append-assoc (take i xs) m r
+
 -- what is left of xs from i on, under the state s, gives the bytes t and the state u
 abbrev pub Leads : Bool → List ℕ → List ℕ → ℕ → List ℕ → List ℕ → Type 0
 Leads d s xs i t u = (take i xs ++ crypted d s (drop i xs) ≡ t) × (absorbed s (text-of d s (drop i xs)) ≡ u)
 
 -- the turn: `&mut xs[i..i + 4]` becomes m
-pub crypt-turn : (d : Bool) (s s′ xs m t u : List ℕ) (i : ℕ) → i + 4 ≤ length xs → Leads d s xs i t u
-    → (let x = take (i + 4 - i) (drop i xs) in m ≡ masked (reading s) x → s′ ≡ moved d s x m → Leads d s′ (putMid i (i + 4 - i) xs m) (i + 4) t u)
-crypt-turn d s s′ xs m t u i h (e, f) em es =
+pub crypt-turn : (d : Bool) (s s′ xs m t u : List ℕ) (i : ℕ) → i + 4 ≤ length xs
+    → (let x = take (i + 4 - i) (drop i xs) in m ≡ masked (reading s) x → s′ ≡ moved d s x m → Leads d s xs i t u → Leads d s′ (putMid i (i + 4 - i) xs m) (i + 4) t u)
+crypt-turn d s s′ xs m t u i h em es (e, f) =
     let x = take (i + 4 - i) (drop i xs) in
-    let four : i + 4 - i ≡ 4 = omega arith in
+    let r = drop (i + 4) xs in
+    let cut : drop i xs ≡ x ++ r = chunk-drop i (i + 4 - i) xs ∙ ap (λ n. x ++ drop n xs) (omega arith) in
     let long : length x ≡ 4 = simp (length-take, length-drop) (omega arith) in
     let whole : length m ≡ 4 = ap length em ∙ (length-masked (reading s) x ∙ long) in
-    let cut : drop i xs ≡ x ++ drop (i + 4) xs =
-    sym (take-append-drop (i + 4 - i) (drop i xs)) ∙ ap (λ r. x ++ r) (drop-drop (i + 4 - i) i xs ∙ ap (λ n. drop (i + n) xs) four) in
-    let front = take-putMid i (i + 4 - i) xs m (i + 4) (omega arith) (omega arith) in
+    let front = written xs m (crypted d s′ r) i 4 (omega arith) whole in
     let back = drop-putMid i (i + 4 - i) xs m (i + 4) (omega arith) (omega arith) (omega arith) in
-    let sum = crypted-more d s x (drop (i + 4) xs) long in
-    let state = moved-more d s x (drop (i + 4) xs) long in
-    let assoc = append-assoc (take i xs) m (crypted d s′ (drop (i + 4) xs)) in
+    let sum = crypted-more d s x r long in
+    let state = moved-more d s x r long in
     (cc, cc)
 
 -- the end: `&mut xs[i..]` becomes m
-pub crypt-end : (d : Bool) (s s′ xs m t u : List ℕ) (i : ℕ) → i ≤ length xs → length xs - i < 4 → Leads d s xs i t u
-    → (let x = take (length xs - i) (drop i xs) in m ≡ masked (reading s) x → s′ ≡ moved d s x m → (putMid i (length xs - i) xs m ≡ t) × (s′ ≡ u))
-crypt-end d s s′ xs m t u i h short (e, f) em es =
+pub crypt-end : (d : Bool) (s s′ xs m t u : List ℕ) (i : ℕ) → length xs - i < 4
+    → (let x = take (length xs - i) (drop i xs) in m ≡ masked (reading s) x → s′ ≡ moved d s x m → Leads d s xs i t u → (putMid i (length xs - i) xs m ≡ t) × (s′ ≡ u))
+crypt-end d s s′ xs m t u i h em es (e, f) =
     let whole = take-rest xs i in
     let few : length (drop i xs) < 4 = simp length-drop (omega arith) in
     let none : drop (length xs - i) (drop i xs) ≡ [] = drop-all (length xs - i) (drop i xs) (simp length-drop (omega arith)) in
@@ -197,3 +211,7 @@ length-enciphered s (a ∷ b ∷ c ∷ d ∷ t) = ap (λ n. suc (suc (suc (suc n
 
 pub length-deciphered : (s t : List ℕ) → length (deciphered s t) ≡ length t
 length-deciphered s t = sym (length-enciphered s (deciphered s t)) ∙ ap length (enciphered-deciphered s t)
+
+-- decrypting undoes encrypting from the same state
+pub undone : (s s′ c x : List ℕ) → x ≡ deciphered s c → s′ ≡ absorbed s (deciphered s c) → (t : List ℕ) → c ≡ enciphered s t → (x ≡ t) × (s′ ≡ absorbed s t)
+undone s s′ c x e f t h = let back : deciphered s c ≡ t = ap (deciphered s) h ∙ deciphered-enciphered s t in (e ∙ back, f ∙ ap (absorbed s) back)

@@ -1,3 +1,4 @@
+-- The bytes done, and what the rest of the word gives with the others, are the whole sum.
 use mathlib.Core.Path.{_≡_}
 use mathlib.Core.List.{_++_}
 use lib.ListN.{take, drop}

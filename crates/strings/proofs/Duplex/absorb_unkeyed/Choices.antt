@@ -1,3 +1,4 @@
+-- What is left of the string, from the bits so far, gives what the whole gave from the bits at the start.
 use mathlib.Core.Path.{_≡_}
 use lib.ListN.{drop}
 use Rattle.duplex.specs.Strings.{absorbed-unkeyed}

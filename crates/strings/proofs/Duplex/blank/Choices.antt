@@ -1,3 +1,4 @@
+-- The steps that are left, from the bits so far, give what all gave from the bits at the start.
 use Prim.Native.Nat.{_-_}
 use mathlib.Core.Path.{_≡_}
 use Rattle.duplex.specs.Strings.{blanked}

@@ -1,6 +1,5 @@
 -- The turn and the end, at the bits of the engine.
-use Prim.Native.Nat.{_+_, _-_, _≤_, _<_}
-use mathlib.Core.Path.{_≡_, sym, ap, _∙_}
+use Prim.Native.Nat.{_+_, _≤_}
 use lib.ListN.{length}
 use native.Mathlib.Omega.{arith}
 use borrow.Author.Needs.{needs}
@@ -13,12 +12,12 @@ loop-text-again g c =
     let fits : c .loop-text .i + 4 ≤ length (c .loop-text .text) = omega arith in (
       search needs,
       crypt-turn (c .args .decrypts) (bits (c .loop-text .self .engine)) (bits (c .crypt-block .last .self .engine)) (c .loop-text .text) (c .crypt-block .last .block) _ _ (c .loop-text .i)
-          fits (c .loop-text .inv .1) (c .crypt-block .ensures .sum) (c .crypt-block .ensures .moved),
+          fits (c .crypt-block .ensures .sum) (c .crypt-block .ensures .moved) (c .loop-text .inv .1),
     )
 
 pub returns : need.returns
 returns g c =
     let bits = g .E·Engine .bits in
     let end = crypt-end (c .args .decrypts) (bits (c .loop-text .self .engine)) (bits (c .crypt-block-2 .last .self .engine)) (c .loop-text .text) (c .crypt-block-2 .last .block) _ _ (c .loop-text .i)
-    (c .loop-text .inv .0) (c .loop-text-test .left) (c .loop-text .inv .1) (c .crypt-block-2 .ensures .sum) (c .crypt-block-2 .ensures .moved) in
+    (omega arith) (c .crypt-block-2 .ensures .sum) (c .crypt-block-2 .ensures .moved) (c .loop-text .inv .1) in
     record { sum = end .0; moved = end .1 }

@@ -1,4 +1,4 @@
--- What is left of the string, from the bits so far, gives the bytes and the bits.
+-- What is left of the string, from the bits so far, gives the bytes and the bits that the whole gave from the start.
 use Prim.Native.Nat.{_-_, _≤_}
 use mathlib.Core.Path.{_≡_}
 use lib.ListN.{length}

@@ -1,16 +1,14 @@
--- The text comes back where a text was encrypted from the same bits.
-use mathlib.Core.Path.{_≡_, ap, _∙_}
-use Rattle.duplex.specs.Strings.{absorbed, deciphered}
-use Rattle.strings.proofs.Blocks.{deciphered-enciphered}
+-- The text comes back where it was encrypted from the same bits.
+use Rattle.strings.proofs.Blocks.{undone}
 use Rattle.strings.proofs.Duplex.decrypt.Needs as need
 
 pub returns : need.returns
 returns g c =
-    let start = g .E·Engine .bits (c .args .self .now .engine) in
+    let bits = g .E·Engine .bits in
+    let sum = c .crypt .ensures .sum in
+    let moved = c .crypt .ensures .moved in
     record {
-      sum = c .crypt .ensures .sum;
-      moved = c .crypt .ensures .moved;
-      undoes = λ t e.
-          let back : deciphered start (c .args .text .now) ≡ t = ap (deciphered start) e ∙ deciphered-enciphered start t in
-          (c .crypt .ensures .sum ∙ back, c .crypt .ensures .moved ∙ ap (absorbed start) back);
+      sum = sum;
+      moved = moved;
+      undoes = undone (bits (c .args .self .now .engine)) (bits (c .crypt .last .self .engine)) (c .args .text .now) (c .crypt .last .text) sum moved;
     }

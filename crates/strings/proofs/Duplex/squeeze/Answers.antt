@@ -1,18 +1,15 @@
 -- The turn and the end, at the bits of the engine.
 use Prim.Native.Nat.{_-_, _≤_, _<_}
-use mathlib.Core.Path.{ap, _∙_}
-use lib.ListN.{length, take}
+use lib.ListN.{length}
 use native.Mathlib.Omega.{arith}
-use Rattle.duplex.specs.Strings.{word-bytes}
 use Rattle.strings.proofs.Readings.{squeeze-turn, squeeze-end}
 use Rattle.strings.proofs.Duplex.squeeze.Needs as need
 
 pub loop-i-again : need.loop-i-again
 loop-i-again g c =
     let bits = g .E·Engine .bits in
-    let word = c .to-le-bytes-bytes .ensures ∙ ap word-bytes (c .read .ensures) in
-    squeeze-turn (bits (c .loop-i .self .engine)) (bits (c .step .last .self .engine)) (c .loop-i .out) (c .copy-from-slice .last .self) _ _ (length (c .args .out .now)) (c .loop-i .i) (c .min-n .result)
-    (c .loop-i .kept .out) (omega arith) (c .min-n .ensures) (c .copy-from-slice .ensures .after ∙ ap (take (c .min-n .result - 0)) word) (c .step .ensures) (c .loop-i .inv)
+    squeeze-turn (bits (c .loop-i .self .engine)) (bits (c .squeeze-word-word .last .self .engine)) (c .loop-i .out) (c .copy-from-slice .last .self) (c .squeeze-word-word .result) _ _ (length (c .args .out .now)) (c .loop-i .i) (c .min-n .result)
+    (c .loop-i .kept .out) (omega arith) (c .min-n .ensures) (c .squeeze-word-word .ensures .value) (c .copy-from-slice .ensures .after) (c .squeeze-word-word .ensures .moved) (c .loop-i .inv)
 
 pub returns : need.returns
 returns g c =

@@ -1,4 +1,4 @@
--- What is still to be squeezed, from the bits so far, gives the bytes and the bits.
+-- What is still to be squeezed, from the bits so far, gives the bytes and the bits that all gave from the start.
 use Prim.Native.Nat.{_-_}
 use lib.ListN.{length}
 use Rattle.duplex.specs.Strings.{squeezed, drained}
