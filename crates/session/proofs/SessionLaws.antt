@@ -12,7 +12,8 @@ use Rattle.std.proofs.shelf.Lists.{take-at}
 use Rattle.std.proofs.shelf.Tests.{lt-ltb, le-ltb}
 use Rattle.duplex.specs.Strings.{absorbed, squeezed, readings}
 use Rattle.strings.proofs.Blocks.{deciphered-enciphered, enciphered-deciphered, length-enciphered, length-deciphered}
-use Rattle.session.specs.declared.fault.SessionFault.the-variants.{Short}
+use Rattle.session.specs.declared.fault.SessionFault.{SessionFault}
+use Rattle.session.specs.declared.fault.SessionFault.the-variants.{Short, Tag}
 use Rattle.session.specs.Sessions.{cipher, tag-of, after, plain, opens, shown}
 use Rattle.session.specs.Calls.{Answer, seal-answer, verdict, open-answer, open-bits, open-out, ReadsBack, OnlySealed}
 
@@ -72,6 +73,14 @@ module _ (s ad c tag : List ℕ) (room : ℕ) where
       at true accepted o h = let z : _≡_ {A = ℕ} 0 1 = cc in absurd (omega arith)
       at false true o h = (cc, o)
       at false false o h = let z : _≡_ {A = ℕ} 0 1 = cc in absurd (omega arith)
+
+  -- an opening with room that refuses found another tag
+  pub open-refused : (f : SessionFault) → length c ≤ room → open-answer s ad c tag room ≡ Err f → (f ≡ Tag (length c)) × (opens s ad c tag ≡ false)
+  open-refused f h e = at (opens s ad c tag) refl (sym (open-fits h) ∙ e)
+    where
+      at : (accepted : Bool) → opens s ad c tag ≡ accepted → verdict c accepted ≡ Err f → (f ≡ Tag (length c)) × (opens s ad c tag ≡ false)
+      at true o h = let z : _≡_ {A = ℕ} 0 1 = cc in absurd (omega arith)
+      at false o h = (cc, o)
 
 -- what an opening with room enough leaves
 pub verdict-bits : (s ad c : List ℕ) (accepted : Bool) → open-bits s ad c (verdict c accepted) ≡ after s ad (plain s ad c)
