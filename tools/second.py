@@ -1,9 +1,10 @@
 #!/usr/bin/env python3
-"""A second program, written from docs/SUITE.md, docs/BENCH.md and docs/DIGEST.md alone.
+"""A second program, written from the rules under docs/ alone.
 
 It works on a list of 257 single bits and follows the documents' words, not
 any other program. Other tools may import it: chi, iota, theta and pi are
-functions on such a list, and a Duplex is a state with the suite's operations.
+functions on such a list, a Duplex is a state with the suite's operations, and
+a Session seals and opens.
 """
 
 import sys
@@ -11,7 +12,7 @@ from typing import BinaryIO, Iterator
 
 USAGE = """\
 usage: second.py < script     run a bench script (docs/BENCH.md)
-       second.py --figures    check the figures of docs/SUITE.md
+       second.py --figures    check the figures of docs/SUITE.md and docs/SESSION.md
        second.py --help       print this
 """
 
@@ -147,6 +148,47 @@ class Duplex:
             result += self.reading_bytes()
             self.step()
         return result[:count]
+
+
+# --- Sessions --------------------------------------------------------------
+
+VALUE_BYTES = 16
+BLANKS = 8
+
+
+class TagDiffers(Exception):
+    """A ciphertext is not opened: its tag is another one."""
+
+
+class Session:
+    """A state that absorbed a key and a nonce, of 16 bytes each."""
+
+    def __init__(self, key: bytes, nonce: bytes) -> None:
+        if len(key) != VALUE_BYTES or len(nonce) != VALUE_BYTES:
+            raise ValueError("a key and a nonce have 16 bytes each")
+        self.duplex = Duplex()
+        self.duplex.absorb(key)
+        self.duplex.absorb(nonce)
+        self.duplex.blank(BLANKS)
+
+    def tag(self) -> bytes:
+        """The tag of all that was absorbed."""
+        self.duplex.blank(BLANKS)
+        return self.duplex.squeeze(VALUE_BYTES)
+
+    def seal(self, ad: bytes, text: bytes) -> tuple[bytes, bytes]:
+        """Return the ciphertext of a text, and its tag."""
+        self.duplex.absorb(ad)
+        ciphertext = self.duplex.encrypt(text)
+        return ciphertext, self.tag()
+
+    def open(self, ad: bytes, ciphertext: bytes, tag: bytes) -> bytes:
+        """Return the text of a ciphertext, or raise TagDiffers."""
+        self.duplex.absorb(ad)
+        text = self.duplex.decrypt(ciphertext)
+        if self.tag() != tag:
+            raise TagDiffers
+        return text
 
 
 # --- Digest and deck -------------------------------------------------------
@@ -293,7 +335,9 @@ def run_bench() -> int:
     return 0
 
 
-# --- The figures of SUITE.md -----------------------------------------------
+# --- The figures of SUITE.md and SESSION.md --------------------------------
+
+KEY, NONCE = bytes(range(16)), bytes(range(16, 32))
 
 LISTED_POSITIONS = """
     1 176 136 35 249 134 197 234 64 213 223 184 2 95 15 70 241 11 137 211 128
@@ -318,7 +362,7 @@ def numbers(text: str) -> list[int]:
 
 
 def figures() -> Iterator[tuple[str, object, object]]:
-    """Everything checked: its name, what we compute, what SUITE.md says."""
+    """Everything checked: its name, what we compute, what the documents say."""
     yield "positions", POSITIONS, numbers(LISTED_POSITIONS)
     for block, number in ("", 1), ("ff", 511), ("00000000", 2**32):
         yield f"block '{block}' padded", padded(bytes.fromhex(block)), number
@@ -344,6 +388,8 @@ def figures() -> Iterator[tuple[str, object, object]]:
     for n, count in (0, 1), (15, 4), (16, 5):
         yield f"steps absorbing {n}", steps(Duplex.absorb, bytes(n)), count
     yield "steps absorbing 3 unkeyed", steps(Duplex.absorb_unkeyed, bytes(3)), 8
+    steps_begun = Session(bytes(16), bytes(16)).duplex.steps
+    yield "steps beginning a session", steps_begun, 18
     for n in range(65):
         text = bytes(37 * n + 101 * i & 255 for i in range(n))
         keyed, sender, receiver = Duplex(), Duplex(), Duplex()
@@ -355,6 +401,9 @@ def figures() -> Iterator[tuple[str, object, object]]:
         yield f"decrypting {n}", receiver.decrypt(ciphertext), text
         yield f"steps decrypting {n}", receiver.steps, n // 4 + 1
         yield f"bits after decrypting {n}", receiver.bits, sender.bits
+        sealer, opener = Session(KEY, NONCE), Session(KEY, NONCE)
+        yield f"opening what sealing {n} gives", opener.open(text[:n // 2], *sealer.seal(text[:n // 2], text)), text
+        yield f"bits after opening {n}", opener.duplex.bits, sealer.duplex.bits
         unkeyed = steps(Duplex.absorb_unkeyed, text)
         yield f"steps absorbing {n} unkeyed", unkeyed, 2 * n + 2
         yield f"steps blanking {n} times", steps(Duplex.blank, n), n
@@ -377,7 +426,7 @@ def run_figures() -> int:
             passed += 1
         else:
             failed += 1
-            print(f"figures: {name}: computed {computed}, SUITE.md {written}")
+            print(f"figures: {name}: computed {computed}, written {written}")
     print(f"figures: {failed} failed" if failed else f"figures: {passed} passed")
     return 1 if failed else 0
 

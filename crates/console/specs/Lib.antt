@@ -3,3 +3,4 @@ pub mod Lines
 pub mod Buffers
 pub mod Replies
 pub mod Runs
+pub mod Example

@@ -1,13 +1,8 @@
 -- What a line does to the state, and what the bench prints for it.
-use Prim.Native.Nat.{ℕ, _+_, _-_}
-use mathlib.Core.Bool.{cond}
+use Prim.Native.Nat.{ℕ}
 use mathlib.Core.List.{List, [], _∷_, _++_}
 use lib.Chars.{codes}
-use lib.Dec.{eqb, leb}
-use lib.ListN.{length, take}
 use Rattle.std.specs.Written.{decimal}
-use Rattle.std.specs.declared.option.Option.{Option}
-use Rattle.std.specs.declared.option.Option.the-variants.{Some, None}
 use Rattle.std.specs.declared.result.Result.{Result}
 use Rattle.std.specs.declared.result.Result.the-variants.{Ok, Err}
 use Rattle.refusals.specs.declared.Refusal.{Refusal}
@@ -17,7 +12,7 @@ use Rattle.console.specs.declared.terms.Command.{Command}
 use Rattle.console.specs.declared.terms.Command.the-variants.{Zero, Absorb, AbsorbUnkeyed, Encrypt, Decrypt, Blank, Squeeze}
 use Rattle.console.specs.declared.terms.Fault.{Fault}
 use Rattle.console.specs.Buffers.{hex}
-use Rattle.console.specs.Lines.{char-of, parsed, string-of}
+use Rattle.console.specs.Lines.{parsed, string-of}
 use Rattle.console.specs.Refusals.{told}
 
 -- the bits after a command with a string

@@ -4,7 +4,7 @@ use mathlib.Core.Path.{_≡_}
 use mathlib.Core.List.{List, [], _∷_}
 use lib.ListN.{length, set}
 use Rattle.duplex.specs.State.{zeros, step, reading}
-use Rattle.duplex.specs.Strings.{padded, blocks, single-blocks, squeezed, drained}
+use Rattle.duplex.specs.Strings.{padded, blocks, single-blocks, steps, absorbed, absorbed-unkeyed, squeezed, drained}
 
 -- the state in which just these bits are set
 abbrev pub only : List ℕ → List ℕ
@@ -39,8 +39,10 @@ pub record WorkedFigures : Type 0 where
   pub squeeze-5 : squeezed zeros 5 ≡ 0x00 ∷ 0x00 ∷ 0x00 ∷ 0x00 ∷ 0x01 ∷ []
   pub after-squeeze-5 : drained zeros 5 ≡ two-empty
 
--- a string takes one step for each of its blocks
+-- a string takes one step for each of its blocks, and these are so many
 pub record StepCounts : Type 0 where
+  pub absorbs : (s t : List ℕ) → absorbed s t ≡ steps s (blocks t)
+  pub absorbs-unkeyed : (s t : List ℕ) → absorbed-unkeyed s t ≡ steps s (single-blocks t)
   pub keyed : (t : List ℕ) → length (blocks t) ≡ length t / 4 + 1
   pub unkeyed : (t : List ℕ) → length (single-blocks t) ≡ 2 * length t + 2
   pub keyed-0 : (t : List ℕ) → length t ≡ 0 → length (blocks t) ≡ 1

@@ -1,12 +1,12 @@
 -- The steps with every distance and position times c, on the state that is stretched by c.
-use Prim.Native.Nat.{ℕ, zero, suc, _+_, _-_, _*_, _/_, _%_, _^_, _<_}
-use mathlib.Core.Path.{_≡_, refl, sym, ap, subst, _∙_}
+use Prim.Native.Nat.{ℕ, zero, suc, _+_, _-_, _*_, _%_, _^_, _<_}
+use mathlib.Core.Path.{_≡_, refl, sym, ap, _∙_}
 use mathlib.Core.Logic.{⊎-elim}
-use mathlib.Core.List.{List, [], _∷_, map}
+use mathlib.Core.List.{List, [], _∷_}
 use mathlib.Core.Bool.{cond}
 use native.Mathlib.Nat.{mul-comm, mul-assoc, mul-add, mul-mul-mul-comm, pow-succ'}
 use native.Mathlib.Omega.{arith}
-use lib.Bits.{bitAnd, bitXor}
+use lib.Bits.{bitXor}
 use lib.Dec.{eqb}
 use lib.ListN.{length, getD, set, length-set}
 use Rattle.std.specs.Iters.{counting}
@@ -14,7 +14,7 @@ use Rattle.std.proofs.shelf.Lists.{getD-set-same, getD-set-other}
 use Rattle.std.proofs.shelf.Tests.{cases-bool, cases-eq, eqb-true, eqb-false, eq-eqb, ne-eqb}
 use Rattle.duplex.specs.State.{IsState, at, state, chi, theta, iota, pi, round, bit, add-at, add-bits, position, inject, step, number, read-bit, reading}
 use Rattle.duplex.proofs.StateLaws.{at-state, state-ext, getD-state, length-state, state-all, state-is}
-use Rattle.words.specs.Packing.{chi-by, theta-by, round-by, place-by, inject-by, read-bit-by, reading-by}
+use Rattle.words.specs.Packing.{mixed, chi-rule, chi-by, theta-rule, theta-by, round-by, place-by, inject-by, read-bit-by, reading-by}
 use Rattle.words.proofs.ModLaws.{cut-left, cut-right}
 use Rattle.words.proofs.FactorLaws.{add-bits-ext, map-ext}
 use Rattle.postponed.specs.Stretch.{stretch}
@@ -46,21 +46,22 @@ at-shift c s i d e q = at-stretch c s (i + d) ∙ at-mod s (c * (i + d)) (c * i 
 at-here : (c : ℕ) (s : List ℕ) (i : ℕ) → at (stretch c s) i ≡ at s (c * i % 257)
 at-here c s i = at-stretch c s i ∙ at-mod s (c * i) (c * i % 257) (omega arith)
 
--- an operation on bits at three places
-three : (G : ℕ → ℕ → ℕ → ℕ) {a b c x y z : ℕ} → a ≡ x → b ≡ y → c ≡ z → G a b c ≡ G x y z
-three G p q r = rw (p, q, r) refl
+-- a rule at distances d and e, on the packed bits at c times those
+mixed-stretch : (rule : ℕ → ℕ → ℕ → ℕ) (c d e d′ e′ : ℕ) (s : List ℕ) → c * d ≡ d′ → c * e ≡ e′
+    → mixed rule d e (stretch c s) ≡ stretch c (mixed rule d′ e′ s)
+unfolding stretch mixed
+mixed-stretch rule c d e d′ e′ s p q = state-ext _ _ (λ i h.
+    ap (λ n. rule n (at (stretch c s) (i + d)) (at (stretch c s) (i + e))) (at-here c s i)
+    ∙ (ap (λ n. rule (at s (c * i % 257)) n (at (stretch c s) (i + e))) (at-shift c s i d d′ p)
+    ∙ (ap (rule (at s (c * i % 257)) (at s (c * i % 257 + d′))) (at-shift c s i e e′ q) ∙ sym (at-state _ (c * i)))))
 
 chi-stretch : (c : ℕ) (s : List ℕ) → chi (stretch c s) ≡ stretch c (chi-by c s)
-unfolding stretch chi chi-by
-chi-stretch c s = state-ext _ _ (λ i h.
-    three (λ x y z. bitXor x (bitAnd (bitXor y 1) z)) (at-here c s i) (at-shift c s i 1 c (omega arith)) (at-shift c s i 2 (2 * c) (omega arith))
-    ∙ sym (at-state _ (c * i)))
+unfolding chi mixed
+chi-stretch c s = mixed-stretch chi-rule c 1 2 c (2 * c) s (omega arith) (omega arith)
 
 theta-stretch : (c : ℕ) (s : List ℕ) → theta (stretch c s) ≡ stretch c (theta-by c s)
-unfolding stretch theta theta-by
-theta-stretch c s = state-ext _ _ (λ i h.
-    three (λ x y z. bitXor (bitXor x y) z) (at-here c s i) (at-shift c s i 3 (3 * c) (omega arith)) (at-shift c s i 8 (8 * c) (omega arith))
-    ∙ sym (at-state _ (c * i)))
+unfolding theta mixed
+theta-stretch c s = mixed-stretch theta-rule c 3 8 (3 * c) (8 * c) s (omega arith) (omega arith)
 
 pi-stretch : (c : ℕ) (s : List ℕ) → pi (stretch c s) ≡ stretch (12 * c) s
 unfolding stretch pi
@@ -139,7 +140,7 @@ add-bits-stretch (j ∷ js) c s x iv w =
 
 -- a step of the stretched state
 step-stretch : (c : ℕ) (s : List ℕ) (x : ℕ) → Invertible c → step (stretch c s) x ≡ stretch (12 * c) (inject-by (12 * c) (round-by c s) x)
-unfolding step inject inject-by round-by theta-by
+unfolding step inject inject-by round-by mixed
 step-stretch c s x iv =
     ap (λ t. inject t x) (round-stretch c s iv)
     ∙ add-bits-stretch (counting 0 33) (12 * c) (round-by c s) x (invertible-more c iv) (length-state _)

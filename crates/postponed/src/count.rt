@@ -3,6 +3,7 @@ ghost use mathlib.Core.Path.{_≡_};
 ghost use Prim.Native.Nat.{_+_, _%_, _^_, _<_};
 ghost use Rattle.postponed.specs.Powers.{power-of-12};
 use crate::table::powers;
+use duplex::positions;
 use words::Lane;
 use words::Places;
 use words::Residue;
@@ -36,11 +37,10 @@ impl Count {
 pub(crate) impl Places for Count as CountPlaces {
     ghost factor = { λ e. 12 ^ e .value };
 
-    // Position j is 12 to the power 4 j, so that the power times it is a power of 12 too.
     fn place(&self, lane: Lane) -> Residue {
-        let moved = Count {
-            value: (self.value + 4 * lane.number as u32) % 256,
+        let position = Residue {
+            value: positions()[lane.number],
         };
-        moved.power()
+        self.power().times(position)
     }
 }

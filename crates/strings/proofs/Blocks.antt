@@ -163,16 +163,54 @@ crypt-end d s s′ xs m t u i h em es (e, f) =
     let state = moved-last d s (drop i xs) few in
     (cc, cc)
 
+-- Decrypting undoes encrypting from the same state, and encrypting undoes decrypting.
+
+-- a block and what follows it, there and back
+back-more : (d : Bool) (s x r : List ℕ) → length x ≡ 4 → (let s′ = moved d s x (masked (reading s) x) in
+    crypted (not d) s′ (crypted d s′ r) ≡ r → crypted (not d) s (crypted d s (x ++ r)) ≡ x ++ r)
+back-more d s x r h e =
+    let m = masked (reading s) x in
+    let s′ = moved d s x m in
+    let twice = masked-twice (reading s) x in
+    ap (crypted (not d) s) (crypted-more d s x r h)
+    ∙ (crypted-more (not d) s m (crypted d s′ r) (length-masked (reading s) x ∙ h)
+    ∙ ap₂ (λ y u. y ++ crypted (not d) u (crypted d s′ r)) twice (same-step d)
+    ∙ ap (λ y. x ++ y) e)
+  where
+    same-step : (b : Bool) → moved (not b) s (masked (reading s) x) (masked (reading s) (masked (reading s) x)) ≡ moved b s x (masked (reading s) x)
+    same-step true = refl
+    same-step false = ap (λ y. step s (padded y)) (masked-twice (reading s) x)
+
+back-last : (d : Bool) (s x : List ℕ) → length x < 4 → crypted (not d) s (crypted d s x) ≡ x
+back-last d s x h =
+    ap (crypted (not d) s) (crypted-last d s x h)
+    ∙ (crypted-last (not d) s (masked (reading s) x) (simp length-masked h) ∙ masked-twice (reading s) x)
+
+pub crypted-back : (d : Bool) (s t : List ℕ) → crypted (not d) s (crypted d s t) ≡ t
+crypted-back d s [] = back-last d s [] (omega arith)
+crypted-back d s (a ∷ []) = back-last d s (a ∷ []) (omega arith)
+crypted-back d s (a ∷ b ∷ []) = back-last d s (a ∷ b ∷ []) (omega arith)
+crypted-back d s (a ∷ b ∷ c ∷ []) = back-last d s (a ∷ b ∷ c ∷ []) (omega arith)
+crypted-back d s (a ∷ b ∷ c ∷ e ∷ t) =
+    let x = a ∷ b ∷ c ∷ e ∷ [] in
+    back-more d s x t refl (crypted-back d (moved d s x (masked (reading s) x)) t)
+
 pub deciphered-enciphered : (s t : List ℕ) → deciphered s (enciphered s t) ≡ t
-unfolding enciphered deciphered
-deciphered-enciphered s [] = refl
-deciphered-enciphered s (a ∷ []) = masked-twice (reading s) (a ∷ [])
-deciphered-enciphered s (a ∷ b ∷ []) = masked-twice (reading s) (a ∷ b ∷ [])
-deciphered-enciphered s (a ∷ b ∷ c ∷ []) = masked-twice (reading s) (a ∷ b ∷ c ∷ [])
-deciphered-enciphered s (a ∷ b ∷ c ∷ d ∷ t) =
-    let x = a ∷ b ∷ c ∷ d ∷ [] in
-    ap (λ y. y ++ text-blocks (step s (padded y)) (blocks (cipher-blocks (step s (padded x)) (blocks t)))) (masked-twice (reading s) x)
-    ∙ ap (λ r. x ++ r) (deciphered-enciphered (step s (padded x)) t)
+deciphered-enciphered s t = crypted-back false s t
+
+pub enciphered-deciphered : (s t : List ℕ) → enciphered s (deciphered s t) ≡ t
+enciphered-deciphered s t = crypted-back true s t
+
+pub length-enciphered : (s t : List ℕ) → length (enciphered s t) ≡ length t
+unfolding enciphered
+length-enciphered s [] = refl
+length-enciphered s (a ∷ []) = refl
+length-enciphered s (a ∷ b ∷ []) = refl
+length-enciphered s (a ∷ b ∷ c ∷ []) = refl
+length-enciphered s (a ∷ b ∷ c ∷ d ∷ t) = ap (λ n. suc (suc (suc (suc n)))) (length-enciphered (step s (padded (a ∷ b ∷ c ∷ d ∷ []))) t)
+
+pub length-deciphered : (s t : List ℕ) → length (deciphered s t) ≡ length t
+length-deciphered s t = sym (length-enciphered s (deciphered s t)) ∙ ap length (enciphered-deciphered s t)
 
 -- decrypting undoes encrypting from the same state
 pub undone : (s s′ c x : List ℕ) → x ≡ deciphered s c → s′ ≡ absorbed s (deciphered s c) → (t : List ℕ) → c ≡ enciphered s t → (x ≡ t) × (s′ ≡ absorbed s t)

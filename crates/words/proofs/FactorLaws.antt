@@ -1,12 +1,12 @@
 -- With factor 1 the steps are those of the state itself.
-use Prim.Native.Nat.{ℕ, _+_, _-_, _*_, _%_}
-use mathlib.Core.Path.{_≡_, refl, sym, ap, _∙_}
+use Prim.Native.Nat.{ℕ}
+use mathlib.Core.Path.{_≡_, refl, ap, _∙_}
 use mathlib.Core.List.{List, [], _∷_, map}
 use native.Mathlib.Nat.{one-mul}
 use native.Mathlib.Omega.{arith}
 use Rattle.std.specs.Iters.{counting}
 use Rattle.duplex.specs.State.{bit, at, add-at, add-bits, position, number, read-bit, chi, theta, pi, round, inject, step, reading}
-use Rattle.words.specs.Packing.{chi-by, theta-by, round-by, place-by, inject-by, read-bit-by, reading-by}
+use Rattle.words.specs.Packing.{mixed, round-by, place-by, inject-by, read-bit-by, reading-by}
 
 -- bits added at places that are equal
 pub add-bits-ext : (p q : ℕ → ℕ) → ((j : ℕ) → p j ≡ q j) → (x : ℕ) (js s : List ℕ) → add-bits p x s js ≡ add-bits q x s js
@@ -18,7 +18,7 @@ map-ext f g e [] = refl
 map-ext f g e (j ∷ js) = ap (λ n. n ∷ map f js) (e j) ∙ ap (λ l. g j ∷ l) (map-ext f g e js)
 
 round-one : (s : List ℕ) → pi (round-by 1 s) ≡ round s
-unfolding round round-by chi chi-by theta theta-by
+unfolding round round-by chi theta mixed
 round-one s = refl
 
 inject-one : (s : List ℕ) (x : ℕ) → inject-by 1 s x ≡ inject s x

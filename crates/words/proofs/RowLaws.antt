@@ -10,20 +10,17 @@ use lib.Pow.{pow-mono}
 use Rattle.std.proofs.shelf.Bits.{and-mask}
 use Rattle.std.proofs.shelf.Lists.{getD-set-same, getD-set-other}
 use Rattle.std.proofs.shelf.Tests.{cases-lt, cases-eq}
-use Rattle.duplex.specs.State.{bit, at, state}
+use Rattle.duplex.specs.State.{bit}
 use Rattle.duplex.proofs.StateLaws.{at-state, state-ext}
 use Rattle.words.specs.Packing.{word-bit, cells, rotated}
-use Rattle.words.proofs.WordLaws.{rotated-cut}
 use Rattle.words.proofs.BitLaws.{or-first, or-second, bit-past, bit-shr, shl-low, shl-high}
 
 -- a loop that writes the words of a row in turn, told by the bits
 pub words-more : (G : ℕ → ℕ) (ws : List ℕ) (k v : ℕ) → k < length ws → ((m : ℕ) → m < 32 * k → word-bit ws m ≡ G m)
-    → ((j : ℕ) → j < 32 → bit v j ≡ G (32 * k + j)) → (m : ℕ) → m < 32 * (k + 1) → word-bit (set ws k v) m ≡ G m
+    → ((m : ℕ) → m / 32 ≡ k → bit v (m % 32) ≡ G m) → (m : ℕ) → m < 32 * (k + 1) → word-bit (set ws k v) m ≡ G m
 words-more G ws k v l below here m h =
     ⊎-elim
-    (λ e. let w : 32 * k + m % 32 ≡ m = omega arith in
-    ap (λ n. bit (getD (set ws k v) n 0) (m % 32)) e
-    ∙ (ap (λ n. bit n (m % 32)) (getD-set-same ws k v 0 l) ∙ (here (m % 32) (omega arith) ∙ ap G w)))
+    (λ e. ap (λ n. bit (getD (set ws k v) n 0) (m % 32)) e ∙ (ap (λ n. bit n (m % 32)) (getD-set-same ws k v 0 l) ∙ here m e))
     (λ ne. ap (λ n. bit n (m % 32)) (getD-set-other ws k (m / 32) v 0 ne) ∙ below m (omega arith))
     (cases-eq (m / 32) k)
 
@@ -122,10 +119,6 @@ mask-bit t m w h =
     ∙ (ap (bit v) z ∙ (same ∙ (ap (bit (getD t 8 0)) (sym z) ∙ ap (λ n. bit (getD t n 0) (m % 32)) (sym e))))))
     (λ ne. ap (λ n. bit n (m % 32)) (getD-set-other t 8 (m / 32) v 0 ne))
     (cases-eq (m / 32) 8)
-
--- the rotation by d of a row that holds the words, d being e modulo 257
-pub turned : (w row x : List ℕ) (d e : ℕ) → cells row ≡ cells w → d ≡ e % 257 → cells x ≡ rotated d (cells row) → cells x ≡ rotated e (cells w)
-turned w row x d e same cut made = made ∙ (rotated-cut d e (cells row) cut ∙ ap (rotated e) same)
 
 -- nine words read from place d of a row that has the bits twice, and cut
 pub read-from : (row t : List ℕ) (d : ℕ) → d < 257 → length t ≡ 9 → ((j : ℕ) → j < 514 → word-bit row j ≡ word-bit row (j % 257))

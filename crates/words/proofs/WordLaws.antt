@@ -1,19 +1,18 @@
 -- The state that nine words hold: a bit added, every bit at once, and all zero.
-use Prim.Native.Nat.{ℕ, zero, suc, _+_, _-_, _*_, _/_, _%_, _^_, _<_}
-use mathlib.Core.Path.{_≡_, refl, sym, ap, subst, _∙_}
+use Prim.Native.Nat.{ℕ, zero, _+_, _*_, _/_, _%_, _^_, _<_}
+use mathlib.Core.Path.{_≡_, sym, ap, subst, _∙_}
 use mathlib.Core.Logic.{⊎-elim}
 use mathlib.Core.List.{List}
-use native.Mathlib.Nat.{mul-one, mod-eq-of-lt}
 use native.Mathlib.Omega.{arith}
 use lib.ListN.{length, getD, set, replicate, length-set}
-use lib.Bits.{bitAnd, bitXor, xor-zero-l, xor-zero-r, and-lt}
+use lib.Bits.{bitXor, xor-zero-r}
 use Rattle.std.proofs.shelf.Bits.{xor-lt}
 use Rattle.std.proofs.shelf.Lists.{getD-set-same, getD-set-other, getD-replicate, length-replicate}
 use Rattle.std.proofs.shelf.Tests.{cases-eq}
 use Rattle.duplex.specs.State.{IsState, bit, at, state, zeros, add-at}
-use Rattle.duplex.proofs.StateLaws.{at-state, state-ext, getD-state, length-state, state-all, state-is}
-use Rattle.words.specs.Packing.{word-bit, cells, rotated, chi-by, theta-by}
-use Rattle.words.proofs.BitLaws.{bit-xor, bit-and, bit-zero, single-here, single-other, chi-form}
+use Rattle.duplex.proofs.StateLaws.{at-state, state-ext, getD-state, state-all, state-is}
+use Rattle.words.specs.Packing.{word-bit, cells, rotated, mixed}
+use Rattle.words.proofs.BitLaws.{bit-xor, bit-zero, single-here, single-other}
 use Rattle.words.proofs.ModLaws.{mod-cong}
 
 pub cells-state : (ws : List ℕ) → IsState (cells ws)
@@ -30,11 +29,6 @@ getD-cells ws i h = getD-state (word-bit ws) i h
 pub at-rotated : (d : ℕ) (s : List ℕ) (i : ℕ) → at (rotated d s) i ≡ at s (i + d)
 unfolding rotated
 at-rotated d s i = at-state (λ i. at s (i + d)) i ∙ ap (λ n. getD s n 0) (omega arith)
-
--- a distance counts modulo 257
-pub rotated-cut : (d e : ℕ) (s : List ℕ) → d ≡ e % 257 → rotated d s ≡ rotated e s
-unfolding rotated
-rotated-cut d e s q = state-ext _ _ (λ i h. ap (λ n. getD s n 0) (ap (λ n. (i + n) % 257) q ∙ sym (mod-cong (i + e) (i + e % 257) (e / 257) (omega arith))))
 
 -- a bit added at place p
 abbrev pub added : List ℕ → ℕ → ℕ → List ℕ
@@ -80,47 +74,40 @@ spare-added ws p b hp w hb s =
     (λ ne. subst (λ n. n < 2) (sym (getD-set-other ws (p / 32) 8 _ 0 ne)) s)
     (cases-eq 8 (p / 32))
 
--- An operation on words that acts on each place alone, G at each place of F.
-abbrev pub Placewise : (ℕ → ℕ → ℕ → ℕ) → (ℕ → ℕ → ℕ → ℕ) → Type 0
-Placewise F G = (a x y j : ℕ) → bit (F a x y) j ≡ G (bit a j) (bit x j) (bit y j)
+module _ (w x y t : List ℕ) (k v : ℕ) where
+  -- word k, made place by place by a rule
+  pub mixed-word : (rule : ℕ → ℕ → ℕ → ℕ) → ((j : ℕ) → bit v j ≡ rule (bit (getD w k 0) j) (bit (getD x k 0) j) (bit (getD y k 0) j))
+      → (m : ℕ) → m / 32 ≡ k → bit v (m % 32) ≡ rule (word-bit w m) (word-bit x m) (word-bit y m)
+  mixed-word rule is m e =
+      is (m % 32) ∙ ap (λ n. rule (bit (getD w n 0) (m % 32)) (bit (getD x n 0) (m % 32)) (bit (getD y n 0) (m % 32))) (sym e)
 
--- done on every word, it is done on every bit: on the words, and on them rotated by d and by e
-pub cells-placewise : (F G : ℕ → ℕ → ℕ → ℕ) (w x y t : List ℕ) (d e : ℕ) → Placewise F G
-    → cells x ≡ rotated d (cells w) → cells y ≡ rotated e (cells w)
-    → ((k : ℕ) → k < 9 → getD t k 0 ≡ F (getD w k 0) (getD x k 0) (getD y k 0))
-    → cells t ≡ state (λ i. G (at (cells w) i) (at (cells w) (i + d)) (at (cells w) (i + e)))
-unfolding cells
-cells-placewise F G w x y t d e placewise hx hy made = state-ext _ _ (λ i h.
-    let here : word-bit w i ≡ at (cells w) i = sym (getD-cells w i h) ∙ ap (λ n. getD (cells w) n 0) (omega arith) in
+  -- the last word, as narrow as those it is made of
+  pub mixed-spare : k < 9 → length t ≡ 9 → getD w 8 0 < 2 → getD x 8 0 < 2 → getD y 8 0 < 2
+      → (getD w k 0 < 2 → getD x k 0 < 2 → getD y k 0 < 2 → v < 2) → 8 < k + 1 → getD (set t k v) 8 0 < 2
+  mixed-spare h long sw sx sy narrow l =
+      let e : 8 ≡ k = omega arith in
+      let low : (z : List ℕ) → getD z 8 0 < 2 → getD z k 0 < 2 = λ z. subst (λ n. getD z n 0 < 2) e in
+      subst (λ n. n < 2) (sym (ap (λ n. getD (set t k v) n 0) e ∙ getD-set-same t k v 0 (omega arith))) (narrow (low w sw) (low x sx) (low y sy))
+
+-- words made place by place by a rule, of words and of them rotated by d and by e
+pub cells-mixed : (rule : ℕ → ℕ → ℕ → ℕ) (w x y t : List ℕ) (d e : ℕ) → cells x ≡ rotated d (cells w) → cells y ≡ rotated e (cells w)
+    → ((m : ℕ) → m < 257 → word-bit t m ≡ rule (word-bit w m) (word-bit x m) (word-bit y m)) → cells t ≡ mixed rule d e (cells w)
+unfolding cells mixed
+cells-mixed rule w x y t d e hx hy made = state-ext _ _ (λ i h.
+    let here : (z : List ℕ) → word-bit z i ≡ at (cells z) i = λ z. sym (getD-cells z i h) ∙ ap (λ n. getD (cells z) n 0) (omega arith) in
     let there : (z : List ℕ) (f : ℕ) → cells z ≡ rotated f (cells w) → word-bit z i ≡ at (cells w) (i + f) =
-    λ z f q. sym (getD-cells z i h) ∙ (ap (λ n. getD (cells z) n 0) (omega arith) ∙ (ap (λ s. at s i) q ∙ at-rotated f (cells w) i)) in
-    ap (λ n. bit n (i % 32)) (made (i / 32) (omega arith)) ∙ (placewise (getD w (i / 32) 0) (getD x (i / 32) 0) (getD y (i / 32) 0) (i % 32)
-    ∙ (ap (λ n. G n (word-bit x i) (word-bit y i)) here
-    ∙ (ap (λ n. G (at (cells w) i) n (word-bit y i)) (there x d hx) ∙ ap (G (at (cells w) i) (at (cells w) (i + d))) (there y e hy)))))
+    λ z f q. here z ∙ (ap (λ s. at s i) q ∙ at-rotated f (cells w) i) in
+    made i h ∙ (ap (λ n. rule n (word-bit x i) (word-bit y i)) (here w)
+    ∙ (ap (λ n. rule (at (cells w) i) n (word-bit y i)) (there x d hx) ∙ ap (rule (at (cells w) i) (at (cells w) (i + d))) (there y e hy))))
 
-abbrev pub chi-word : ℕ → ℕ → ℕ → ℕ
-chi-word a x y = bitXor (bitXor a y) (bitAnd x y)
-
-abbrev pub chi-bits : ℕ → ℕ → ℕ → ℕ
-chi-bits a x y = bitXor a (bitAnd (bitXor x 1) y)
-
-abbrev pub theta-word : ℕ → ℕ → ℕ → ℕ
-theta-word a x y = bitXor (bitXor a x) y
-
-pub chi-placewise : Placewise chi-word chi-bits
-chi-placewise a x y j =
-    bit-xor (bitXor a y) (bitAnd x y) j
-    ∙ (ap (λ n. bitXor n (bit (bitAnd x y) j)) (bit-xor a y j) ∙ (ap (bitXor (bitXor (bit a j) (bit y j))) (bit-and x y j)
-    ∙ chi-form (bit a j) (bit x j) (bit y j) (omega arith) (omega arith) (omega arith)))
-
-pub theta-placewise : Placewise theta-word theta-word
-theta-placewise a x y j = bit-xor (bitXor a x) y j ∙ ap (λ n. bitXor n (bit y j)) (bit-xor a x j)
-
-pub chi-spare : (a x y : ℕ) → a < 2 → x < 2 → y < 2 → chi-word a x y < 2
-chi-spare a x y ha hx hy = xor-lt 1 (bitXor a y) (bitAnd x y) (xor-lt 1 a y ha hy) (and-lt 1 x y hx hy)
-
-pub theta-spare : (a x y : ℕ) → a < 2 → x < 2 → y < 2 → theta-word a x y < 2
-theta-spare a x y ha hx hy = xor-lt 1 (bitXor a x) y (xor-lt 1 a x ha hx) hy
+-- a distance counts modulo 257
+pub mixed-cut : (rule : ℕ → ℕ → ℕ → ℕ) (d d′ e e′ : ℕ) (s : List ℕ) → d ≡ d′ % 257 → e ≡ e′ % 257 → mixed rule d e s ≡ mixed rule d′ e′ s
+unfolding mixed
+mixed-cut rule d d′ e e′ s p q = state-ext _ _ (λ i h.
+    ap (λ n. rule (at s i) n (at s (i + e))) (far i d d′ p) ∙ ap (rule (at s i) (at s (i + d′))) (far i e e′ q))
+  where
+    far : (i f g : ℕ) → f ≡ g % 257 → at s (i + f) ≡ at s (i + g)
+    far i f g q = ap (λ n. getD s n 0) (ap (λ n. (i + n) % 257) q ∙ sym (mod-cong (i + g) (i + g % 257) (g / 257) (omega arith)))
 
 -- words that are zero hold zeros
 pub cells-zeros : cells (replicate 9 0) ≡ zeros

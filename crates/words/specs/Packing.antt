@@ -17,11 +17,21 @@ cells ws = state (word-bit ws)
 unfoldable pub rotated : ℕ → List ℕ → List ℕ
 rotated d s = state (λ i. at s (i + d))
 
-unfoldable pub chi-by : ℕ → List ℕ → List ℕ
-chi-by c s = state (λ i. at s i ⊕ (at s (i + c) ⊕ 1) ⊗ at s (i + 2 * c))
+-- a rule of three bits, of s and of s rotated by d and by e
+unfoldable pub mixed : (ℕ → ℕ → ℕ → ℕ) → ℕ → ℕ → List ℕ → List ℕ
+mixed rule d e s = state (λ i. rule (at s i) (at s (i + d)) (at s (i + e)))
 
-unfoldable pub theta-by : ℕ → List ℕ → List ℕ
-theta-by c s = state (λ i. at s i ⊕ at s (i + 3 * c) ⊕ at s (i + 8 * c))
+abbrev pub chi-rule : ℕ → ℕ → ℕ → ℕ
+chi-rule a x y = a ⊕ (x ⊕ 1) ⊗ y
+
+abbrev pub theta-rule : ℕ → ℕ → ℕ → ℕ
+theta-rule a x y = a ⊕ x ⊕ y
+
+abbrev pub chi-by : ℕ → List ℕ → List ℕ
+chi-by c s = mixed chi-rule c (2 * c) s
+
+abbrev pub theta-by : ℕ → List ℕ → List ℕ
+theta-by c s = mixed theta-rule (3 * c) (8 * c) s
 
 -- a round without its shuffle
 unfoldable pub round-by : ℕ → List ℕ → List ℕ

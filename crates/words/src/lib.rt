@@ -9,6 +9,7 @@ mod vector;
 pub use packed::Packed;
 pub use packed::PackedEngine;
 pub use residue::Residue;
+pub use row::Row;
 pub use transfer::Lane;
 pub use transfer::Places;
 pub use vector::Words;

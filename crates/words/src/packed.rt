@@ -26,7 +26,7 @@ pub struct Packed {
 }
 
 pub impl Engine for Packed as PackedEngine {
-    ghost bits = { λ e. cells (e .words .words) };
+    ghost bits = { λ e. cells (e .words .array) };
 
     fn new() -> Packed {
         Packed {
@@ -45,6 +45,6 @@ pub impl Engine for Packed as PackedEngine {
     }
 
     fn copy(&self) -> Packed {
-        *self
+        Packed { words: self.words }
     }
 }

@@ -9,39 +9,39 @@ use crate::vector::Words;
 // Bit j is bit j mod 257.
 #[derive(Clone, Copy)]
 pub struct Row {
-    words: [u32; 18],
-    ghost width: { length words ≡ 18 },
-    ghost twice: { ((j : ℕ) → j < 514 → word-bit words j ≡ word-bit words (j % 257)) },
+    array: [u32; 18],
+    ghost width: { length array ≡ 18 },
+    ghost twice: { ((j : ℕ) → j < 514 → word-bit array j ≡ word-bit array (j % 257)) },
 }
 
 impl Row {
     pub fn new(w: &Words) -> Row
-        ensures { λ r. ⌜ cells (r .words) ≡ cells (now (w .entry) .words) ⌝ }
+        ensures { λ r. ⌜ cells (r .array) ≡ cells (now (w .entry) .array) ⌝ }
     {
-        let w = w.words;
-        let mut words = [0u32; 18];
+        let w = w.array;
+        let mut array = [0u32; 18];
         for k in 0..8 {
-            words[k] = w[k];
+            array[k] = w[k];
         }
-        words[8] = w[8] | (w[0] << 1);
+        array[8] = w[8] | (w[0] << 1);
         for m in 0..8 {
-            words[9 + m] = (w[m] >> 31) | (w[m + 1] << 1);
+            array[9 + m] = (w[m] >> 31) | (w[m + 1] << 1);
         }
-        Row { words }
+        Row { array }
     }
 
-    // The 257 bits from bit d on.
+    // Bit i of the result is bit (i + d) mod 257.
     pub fn rotate(&self, d: Residue) -> Words
-        ensures { λ r. ⌜ cells (r .words) ≡ rotated (d .value) (cells (now (self .entry) .words)) ⌝ }
+        ensures { λ r. ⌜ cells (r .array) ≡ rotated (d .value) (cells (now (self .entry) .array)) ⌝ }
     {
-        let row = &self.words;
+        let row = &self.array;
         let from = (d.value / 32) as usize;
         let by = d.value % 32;
-        let mut words = [0u32; 9];
+        let mut array = [0u32; 9];
         for k in 0..9 {
-            words[k] = (row[from + k] >> by) | ((row[from + k + 1] << 1) << (31 - by));
+            array[k] = (row[from + k] >> by) | ((row[from + k + 1] << 1) << (31 - by));
         }
-        words[8] &= 1;
-        Words { words }
+        array[8] &= 1;
+        Words { array }
     }
 }

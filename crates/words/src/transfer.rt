@@ -24,7 +24,7 @@ pub trait Places {
 impl Words {
     // Adds bit j of the block at the place of position j, for the lowest 33 bits.
     pub fn inject_by<P: Places>(&mut self, block: u64, places: &P)
-        ensures { λ _. ⌜ cells (now (self .exit) .words) ≡ inject-by (P·Places .factor (now (places .entry))) (cells (now (self .entry) .words)) block ⌝ }
+        ensures { λ _. ⌜ cells (now (self .exit) .array) ≡ inject-by (P·Places .factor (now (places .entry))) (cells (now (self .entry) .array)) block ⌝ }
     {
         for j in 0..33 {
             let place = places.place(Lane { number: j });
@@ -34,7 +34,7 @@ impl Words {
 
     // Bit j is the sum of the bits at the place of position j and opposite to it. The highest comes first.
     pub fn read_by<P: Places>(&self, places: &P) -> u32
-        ensures { λ r. ⌜ r ≡ reading-by (P·Places .factor (now (places .entry))) (cells (now (self .entry) .words)) ⌝ }
+        ensures { λ r. ⌜ r ≡ reading-by (P·Places .factor (now (places .entry))) (cells (now (self .entry) .array)) ⌝ }
     {
         let mut out = 0u32;
         for j in (0..32).rev() {

@@ -2,44 +2,36 @@
 ghost use mathlib.Core.Path.{_≡_};
 ghost use Prim.Native.Nat.{_%_, _<_};
 ghost use lib.ListN.{length, getD};
-ghost use Rattle.duplex.specs.State.{zeros, add-at, pi};
-ghost use Rattle.words.specs.Packing.{cells, rotated};
+ghost use Rattle.duplex.specs.State.{zeros, add-at};
+ghost use Rattle.words.specs.Packing.{cells};
 use crate::residue::Residue;
-use crate::row::Row;
 
 // The 31 high bits of the last word are zero.
 #[derive(Clone, Copy)]
 pub struct Words {
-    pub(crate) words: [u32; 9],
-    ghost width: { length words ≡ 9 },
-    ghost spare: { getD words 8 0 < 2 },
+    pub(crate) array: [u32; 9],
+    ghost width: { length array ≡ 9 },
+    ghost spare: { getD array 8 0 < 2 },
 }
 
 impl Words {
     pub fn new() -> Words
-        ensures { λ r. ⌜ cells (r .words) ≡ zeros ⌝ }
+        ensures { λ r. ⌜ cells (r .array) ≡ zeros ⌝ }
     {
-        Words { words: [0u32; 9] }
+        Words { array: [0u32; 9] }
     }
 
     // Bit p.
     pub fn bit(&self, p: Residue) -> u32
-        ensures { λ r. ⌜ r ≡ getD (cells (now (self .entry) .words)) (p .value) 0 ⌝ }
+        ensures { λ r. ⌜ r ≡ getD (cells (now (self .entry) .array)) (p .value) 0 ⌝ }
     {
-        (self.words[(p.value / 32) as usize] >> (p.value % 32)) & 1
+        (self.array[(p.value / 32) as usize] >> (p.value % 32)) & 1
     }
 
     // Adds the lowest bit of b to bit p.
     pub fn add_bit(&mut self, p: Residue, b: u32)
-        ensures { λ _. ⌜ cells (now (self .exit) .words) ≡ add-at (cells (now (self .entry) .words)) (p .value) (b % 2) ⌝ }
+        ensures { λ _. ⌜ cells (now (self .exit) .array) ≡ add-at (cells (now (self .entry) .array)) (p .value) (b % 2) ⌝ }
     {
-        self.words[(p.value / 32) as usize] ^= (b & 1) << (p.value % 32);
-    }
-
-    // Bit i of the result is bit i + d.
-    pub fn rotate(&self, d: Residue) -> Words
-        ensures { λ r. ⌜ cells (r .words) ≡ rotated (d .value) (cells (now (self .entry) .words)) ⌝ }
-    {
-        Row::new(self).rotate(d)
+        self.array[(p.value / 32) as usize] ^= (b & 1) << (p.value % 32);
     }
 }

@@ -4,7 +4,7 @@ use mathlib.Core.Path.{_≡_, refl, ap, _∙_}
 use mathlib.Core.List.{List, [], _∷_}
 use native.Mathlib.Omega.{arith}
 use lib.ListN.{length}
-use Rattle.duplex.specs.Strings.{blocks, single-blocks}
+use Rattle.duplex.specs.Strings.{blocks, single-blocks, absorbed, absorbed-unkeyed}
 use Rattle.duplex.proofs.figures.step_counts.Needs as need
 
 keyed : (t : List ℕ) → length (blocks t) ≡ length t / 4 + 1
@@ -19,8 +19,11 @@ unkeyed [] = refl
 unkeyed (b ∷ bs) = omega (arith, unkeyed bs)
 
 pub returns : need.returns
+unfolding absorbed absorbed-unkeyed
 returns c =
     record {
+      absorbs = λ s t. refl;
+      absorbs-unkeyed = λ s t. refl;
       keyed = keyed;
       unkeyed = unkeyed;
       keyed-0 = λ t h. omega (arith, keyed t);

@@ -6,4 +6,4 @@ use Rattle.postponed.proofs.StretchLaws.{stretch-one}
 use Rattle.postponed.proofs.engine.PostponedEngine.new.Needs as need
 
 pub returns : need.returns
-returns c = let w = c .new .result .words in stretch-one (cells w) (length-cells w) ∙ c .new .ensures
+returns c = let w = c .new .result .array in stretch-one (cells w) (length-cells w) ∙ c .new .ensures

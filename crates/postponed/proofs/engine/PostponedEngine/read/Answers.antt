@@ -6,4 +6,4 @@ use Rattle.postponed.proofs.StretchLaws.{reading-stretch}
 use Rattle.postponed.proofs.engine.PostponedEngine.read.Needs as need
 
 pub returns : need.returns
-returns c = let e = c .args .self .now in c .read-by .ensures ∙ sym (reading-stretch (12 ^ e .count .value) (cells (e .words .words)))
+returns c = let e = c .args .self .now in c .read-by .ensures ∙ sym (reading-stretch (12 ^ e .count .value) (cells (e .words .array)))

@@ -5,4 +5,4 @@ use Rattle.postponed.proofs.StretchLaws.{stretch-state}
 use Rattle.postponed.proofs.engine.PostponedEngine.the-impl.Needs as need
 
 pub means-law : need.means-law
-means-law e = stretch-state _ (cells (e .words .words)) (cells-state (e .words .words))
+means-law e = stretch-state _ (cells (e .words .array)) (cells-state (e .words .array))

@@ -5,4 +5,4 @@ use Rattle.words.proofs.FactorLaws.{reading-one}
 use Rattle.words.proofs.packed.PackedEngine.read.Needs as need
 
 pub returns : need.returns
-returns c = c .read-by .ensures ∙ reading-one (cells (c .args .self .now .words .words))
+returns c = c .read-by .ensures ∙ reading-one (cells (c .args .self .now .words .array))

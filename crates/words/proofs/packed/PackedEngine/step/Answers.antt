@@ -8,4 +8,4 @@ use Rattle.words.proofs.packed.PackedEngine.step.Needs as need
 pub returns : need.returns
 returns c =
     c .inject-by .ensures
-    ∙ step-one (cells (c .args .self .now .words .words)) _ (c .args .block) (c .shuffle-words .ensures ∙ ap pi (c .round-by .ensures))
+    ∙ step-one (cells (c .args .self .now .words .array)) _ (c .args .block) (c .shuffle-words .ensures ∙ ap pi (c .round-by .ensures))

@@ -1,5 +1,4 @@
 -- The words written are the nine laid twice.
-use native.Mathlib.Omega.{arith}
 use Rattle.words.proofs.RowLaws.{laid-twice, laid-cells}
 use Rattle.words.proofs.row.Row.new.Needs as need
 

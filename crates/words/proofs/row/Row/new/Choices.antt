@@ -6,7 +6,7 @@ use Rattle.words.proofs.RowLaws.{Laid}
 use Rattle.words.proofs.row.Row.new.Given as given
 
 abbrev pub Inv-loop-k : given.InvT-loop-k
-Inv-loop-k l = (length (l .words) ≡ 18) × ((k : ℕ) → k < l .k → getD (l .words) k 0 ≡ getD (l .w) k 0)
+Inv-loop-k l = (length (l .array) ≡ 18) × ((k : ℕ) → k < l .k → getD (l .array) k 0 ≡ getD (l .w) k 0)
 
 abbrev pub Inv-loop-m : given.InvT-loop-m
-Inv-loop-m l = (length (l .words) ≡ 18) × Laid (l .w) (l .words) (l .m)
+Inv-loop-m l = (length (l .array) ≡ 18) × Laid (l .w) (l .array) (l .m)

@@ -6,4 +6,4 @@ use Rattle.words.specs.Packing.{word-bit}
 use Rattle.words.proofs.row.Row.rotate.Given as given
 
 abbrev pub Inv-loop-k : given.InvT-loop-k
-Inv-loop-k l = (length (l .words) ≡ 9) × ((m : ℕ) → m < 32 * l .k → word-bit (l .words) m ≡ word-bit (l .row) (m + (32 * l .from + l .by)))
+Inv-loop-k l = (length (l .array) ≡ 9) × ((m : ℕ) → m < 32 * l .k → word-bit (l .array) m ≡ word-bit (l .row) (m + (32 * l .from + l .by)))

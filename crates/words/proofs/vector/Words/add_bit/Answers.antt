@@ -19,8 +19,8 @@ ghost-self c =
     let w = c .args .self .now in
     let p = c .args .p .value in
     let b = c .args .b in (
-      length-set (w .words) (p / 32) _ ∙ w .width,
-      (subst (λ t. getD t 8 0 < 2) (sym (masked (w .words) p b)) (spare-added (w .words) p (b % 2) (omega arith) (w .width) (omega arith) (w .spare)), tt),
+      length-set (w .array) (p / 32) _ ∙ w .width,
+      (subst (λ t. getD t 8 0 < 2) (sym (masked (w .array) p b)) (spare-added (w .array) p (b % 2) (omega arith) (w .width) (omega arith) (w .spare)), tt),
     )
 
 pub returns : need.returns
@@ -28,4 +28,4 @@ returns c =
     let w = c .args .self .now in
     let p = c .args .p .value in
     let b = c .args .b in
-    ap cells (masked (w .words) p b) ∙ cells-added (w .words) p (b % 2) (omega arith) (w .width) (omega arith)
+    ap cells (masked (w .array) p b) ∙ cells-added (w .array) p (b % 2) (omega arith) (w .width) (omega arith)

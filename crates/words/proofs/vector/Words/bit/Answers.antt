@@ -9,6 +9,6 @@ use Rattle.words.proofs.vector.Words.bit.Needs as need
 
 pub returns : need.returns
 returns c =
-    let w = c .args .self .now .words in
+    let w = c .args .self .now .array in
     let p = c .args .p .value in
     and-mask (getD w (p / 32) 0 / 2 ^ (p % 32)) 1 ∙ sym (getD-cells w p (omega arith))

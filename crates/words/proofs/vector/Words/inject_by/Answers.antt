@@ -1,5 +1,5 @@
 -- Each turn adds one bit at the place of its position.
-use Prim.Native.Nat.{_+_, _-_, _*_, _/_, _%_, _^_, _<_}
+use Prim.Native.Nat.{_+_, _-_, _/_, _%_, _^_}
 use mathlib.Core.Path.{_≡_, refl, sym, ap, _∙_}
 use native.Mathlib.Omega.{arith}
 use lib.Bits.{bitAnd}
@@ -16,7 +16,7 @@ loop-j-holds g c = refl
 
 pub loop-j-again : need.loop-j-again
 loop-j-again g c =
-    let s = cells (c .loop-j .self .words) in
+    let s = cells (c .loop-j .self .array) in
     let p = place-by (g .P·Places .factor (c .args .places .now)) in
     let x = c .args .block in
     let j = c .loop-j .j in
@@ -28,4 +28,4 @@ loop-j-again g c =
 pub returns : need.returns
 returns g c =
     let p = place-by (g .P·Places .factor (c .args .places .now)) in
-    sym (add-bits-all p (c .args .block) (cells (c .loop-j .self .words)) (c .loop-j .j) (c .loop-j-test .left)) ∙ c .loop-j .inv
+    sym (add-bits-all p (c .args .block) (cells (c .loop-j .self .array)) (c .loop-j .j) (c .loop-j-test .left)) ∙ c .loop-j .inv

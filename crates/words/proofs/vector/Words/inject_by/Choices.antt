@@ -8,5 +8,5 @@ use Rattle.words.proofs.vector.Words.inject_by.Given as given
 
 abbrev pub Inv-loop-j : given.InvT-loop-j
 Inv-loop-j g l =
-    add-bits (place-by (g .P·Places .factor (l .places))) (l .block) (cells (l .self .words)) (counting (l .j) (33 - l .j))
-    ≡ inject-by (g .P·Places .factor (l .places)) (cells (l .entry .self .words)) (l .block)
+    add-bits (place-by (g .P·Places .factor (l .places))) (l .block) (cells (l .self .array)) (counting (l .j) (33 - l .j))
+    ≡ inject-by (g .P·Places .factor (l .places)) (cells (l .entry .self .array)) (l .block)

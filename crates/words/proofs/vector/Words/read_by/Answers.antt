@@ -1,5 +1,5 @@
 -- Each turn reads one bit at the place of its position, and one opposite to it.
-use Prim.Native.Nat.{ℕ, _+_, _-_, _*_, _%_, _^_, _<_}
+use Prim.Native.Nat.{ℕ, _-_, _*_, _%_, _<_}
 use mathlib.Core.Path.{_≡_, sym, ap, subst, _∙_}
 use mathlib.Core.List.{List, map}
 use native.Mathlib.Omega.{arith}
@@ -24,12 +24,12 @@ sum-bit ws p q x y ex ey =
 
 pub add-out : need.add-out
 add-out g c =
-    let b = sum-bit (c .args .self .now .words) _ _ _ _ (c .bit .ensures) (c .bit-in-loop-j .ensures) in
+    let b = sum-bit (c .args .self .now .array) _ _ _ _ (c .bit .ensures) (c .bit-in-loop-j .ensures) in
     omega (arith, read-fits (c .loop-j .j) (c .loop-j .out) _ (c .loop-j-test .taken) (c .loop-j .kept .j) b (c .loop-j .inv .0))
 
 pub loop-j-again : need.loop-j-again
 loop-j-again g c =
-    let w = c .args .self .now .words in
+    let w = c .args .self .now .array in
     let s = cells w in
     let k = g .P·Places .factor (c .args .places .now) in
     let i = c .loop-j .j in
@@ -48,7 +48,7 @@ loop-j-again g c =
 pub returns : need.returns
 unfolding reading-by
 returns g c =
-    let s = cells (c .args .self .now .words) in
+    let s = cells (c .args .self .now .array) in
     let k = g .P·Places .factor (c .args .places .now) in
     let e : c .loop-j .j ≡ 0 = omega arith in
     c .loop-j .inv .1 ∙ ap (λ n. number (map (read-bit-by k s) (counting n (32 - n)))) e

@@ -4,4 +4,4 @@ use Rattle.words.proofs.ReadLaws.{ReadDown}
 use Rattle.words.proofs.vector.Words.read_by.Given as given
 
 abbrev pub Inv-loop-j : given.InvT-loop-j
-Inv-loop-j g l = ReadDown (read-bit-by (g .P·Places .factor (l .places)) (cells (l .self .words))) (l .j) (l .out)
+Inv-loop-j g l = ReadDown (read-bit-by (g .P·Places .factor (l .places)) (cells (l .self .array))) (l .j) (l .out)

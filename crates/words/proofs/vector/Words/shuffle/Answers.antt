@@ -1,6 +1,6 @@
 -- Each turn fills one place with the bit at 12 times it.
-use Prim.Native.Nat.{ℕ, _+_, _*_, _%_, _<_}
-use mathlib.Core.Path.{_≡_, refl, sym, ap, _∙_}
+use Prim.Native.Nat.{ℕ, _*_, _%_, _<_}
+use mathlib.Core.Path.{_≡_, refl, ap, _∙_}
 use native.Mathlib.Omega.{arith}
 use lib.ListN.{getD, set, length}
 use lib.Bits.{bitXor, xor-zero-l}
@@ -18,14 +18,14 @@ loop-i-holds c = (refl, λ m h. absurd (omega arith), λ m _ h. ap (λ s. getD s
 
 pub loop-i-again : need.loop-i-again
 loop-i-again c =
-    let s = cells (c .args .self .now .words) in
-    let t = cells (c .loop-i .words .words) in
+    let s = cells (c .args .self .now .array) in
+    let t = cells (c .loop-i .words .array) in
     let i = c .loop-i .i in
     let b = c .bit .result in
-    let small : i < length t = omega (arith, length-cells (c .loop-i .words .words)) in
+    let small : i < length t = omega (arith, length-cells (c .loop-i .words .array)) in
     let read : b ≡ pi-bit s i = c .bit .ensures ∙ ap (λ n. getD s n 0) (c .loop-i .inv .0) in
-    let one : b % 2 ≡ b = omega (arith, c .bit .ensures, cells-state (c .args .self .now .words) .bits (c .loop-i .from .0)) in
-    let made : cells (c .add-bit .last .self .words) ≡ set t i (pi-bit s i) =
+    let one : b % 2 ≡ b = omega (arith, c .bit .ensures, cells-state (c .args .self .now .array) .bits (c .loop-i .from .0)) in
+    let made : cells (c .add-bit .last .self .array) ≡ set t i (pi-bit s i) =
     c .add-bit .ensures ∙ ap (set t i) (ap (λ n. bitXor n (b % 2)) (c .loop-i .inv .2 i (omega arith) (omega arith)) ∙ (xor-zero-l (b % 2) ∙ (one ∙ read))) in (
       c .plus-from .ensures ∙ (sum-mod (12 * i) 12 _ 12 (c .loop-i .inv .0) refl ∙ ap (λ n. n % 257) (omega arith)),
       (λ m h. ap (λ u. getD u m 0) made ∙ fill-by-more (pi-bit s) t i 0 small (c .loop-i .inv .1) m h),
@@ -35,4 +35,4 @@ loop-i-again c =
 pub returns : need.returns
 unfolding pi
 returns c =
-    state-all (cells (c .loop-i .words .words)) (pi-bit (cells (c .args .self .now .words))) (length-cells (c .loop-i .words .words)) (λ m h. c .loop-i .inv .1 m (omega arith))
+    state-all (cells (c .loop-i .words .array)) (pi-bit (cells (c .args .self .now .array))) (length-cells (c .loop-i .words .array)) (λ m h. c .loop-i .inv .1 m (omega arith))

@@ -8,5 +8,5 @@ use Rattle.words.proofs.vector.Words.shuffle.Given as given
 
 abbrev pub Inv-loop-i : given.InvT-loop-i
 Inv-loop-i l = (l .from .0 ≡ 12 * l .i % 257)
-    × ((m : ℕ) → m < l .i → getD (cells (l .words .words)) m 0 ≡ at (cells (l .self .words)) (12 * m))
-    × ((m : ℕ) → l .i ≤ m → m < 257 → getD (cells (l .words .words)) m 0 ≡ 0)
+    × ((m : ℕ) → m < l .i → getD (cells (l .words .array)) m 0 ≡ at (cells (l .self .array)) (12 * m))
+    × ((m : ℕ) → l .i ≤ m → m < 257 → getD (cells (l .words .array)) m 0 ≡ 0)

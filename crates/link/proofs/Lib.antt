@@ -1,0 +1,3 @@
+pub mod Takings
+pub mod Writings
+pub mod Suite

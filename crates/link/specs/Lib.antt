@@ -1,0 +1,5 @@
+pub mod Kinds
+pub mod Frames
+pub mod Sender
+pub mod Refusals
+pub mod Calls
