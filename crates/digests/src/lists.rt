@@ -52,7 +52,7 @@ fn absorb_entries<E: Engine>(duplex: &mut Duplex<E>, keyed: bool, buffer: &[u8],
     requires { ⌜ outside 0 (length (now buffer)) (now entries) ≡ None ⌝ }
     ensures { λ _. ⌜ E·Engine .bits (now (duplex .exit) .engine) ≡ absorbed-all (absorbed-by keyed) (E·Engine .bits (now (duplex .entry) .engine)) (cuts (now (buffer .entry)) (now (entries .entry))) ⌝ }
 {
-    for entry in entries {
+    'each: for entry in entries {
         absorb_string(
             duplex,
             keyed,

@@ -10,20 +10,20 @@ use Rattle.digests.proofs.lists.absorb_entries.Needs as need
 
 pub add-entry : need.add-entry
 add-entry g c =
-    let inside = all-inside (c .args .entries .now) 0 (length (c .args .buffer .now)) (c .pre) (c .loop-entry .entry-index) (c .loop-entry-test .taken) in
+    let inside = all-inside (c .args .entries .now) 0 (length (c .args .buffer .now)) (c .pre) (c .each .entry-index) (c .each-test .taken) in
     search needs
 
 pub part-absorb-string-end : need.part-absorb-string-end
 part-absorb-string-end g c =
-    let inside = all-inside (c .args .entries .now) 0 (length (c .args .buffer .now)) (c .pre) (c .loop-entry .entry-index) (c .loop-entry-test .taken) in
+    let inside = all-inside (c .args .entries .now) 0 (length (c .args .buffer .now)) (c .pre) (c .each .entry-index) (c .each-test .taken) in
     search needs
 
-pub loop-entry-again : need.loop-entry-again
-loop-entry-again g c =
-    absorb-turn (absorbed-by (c .args .keyed)) _ _ (c .args .buffer .now) (c .args .entries .now) (c .loop-entry .entry-index) (c .loop-entry-test .taken) (c .absorb-string .ensures)
-    ∙ c .loop-entry .inv
+pub each-again : need.each-again
+each-again g c =
+    absorb-turn (absorbed-by (c .args .keyed)) _ _ (c .args .buffer .now) (c .args .entries .now) (c .each .entry-index) (c .each-test .taken) (c .absorb-string .ensures)
+    ∙ c .each .inv
 
 pub returns : need.returns
 returns g c =
-    absorb-end (absorbed-by (c .args .keyed)) _ (c .args .buffer .now) (c .args .entries .now) (c .loop-entry .entry-index) (omega arith)
-    ∙ c .loop-entry .inv
+    absorb-end (absorbed-by (c .args .keyed)) _ (c .args .buffer .now) (c .args .entries .now) (c .each .entry-index) (omega arith)
+    ∙ c .each .inv

@@ -5,7 +5,7 @@ use Rattle.digests.specs.Entries.{cuts}
 use Rattle.digests.specs.Digests.{absorbed-by, absorbed-all}
 use Rattle.digests.proofs.lists.absorb_entries.Given as given
 
-abbrev pub Inv-loop-entry : given.InvT-loop-entry
-Inv-loop-entry g l =
+abbrev pub Inv-each : given.InvT-each
+Inv-each g l =
     absorbed-all (absorbed-by (l .keyed)) (g .E·Engine .bits (l .duplex .engine)) (cuts (l .buffer) (drop (l .entry-index) (l .entries)))
     ≡ absorbed-all (absorbed-by (l .keyed)) (g .E·Engine .bits (l .entry .duplex .engine)) (cuts (l .buffer) (l .entries))
