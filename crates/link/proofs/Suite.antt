@@ -25,7 +25,7 @@ use Rattle.link.specs.Kinds.{kind-byte, text-length, least-room, kind-of}
 use Rattle.link.specs.Frames.{Standing, largest-number, header-length, overhead, associated, header-in, number-in, body-in, tag-in, text-in}
 use Rattle.link.specs.Sender.{frame-of, next-of, ready, written, held, writes, fed, CouldWrite}
 use Rattle.link.specs.Calls.{Checked, checked, opened, take-answer, take-standing}
-use Rattle.link.proofs.Takings.{Named, Seen, seen, seen-is, Passed, passes, answer-ok, length-body}
+use Rattle.link.proofs.Takings.{Fit, Seen, seen-is, passes, answer-ok, length-body}
 
 -- Kinds and their bytes.
 
@@ -142,8 +142,9 @@ module _ (m : Standing) (k : Kind) (t : List ℕ) where
       let f = frame-of m k t in
       let n : length f ≡ text-length k + overhead = omega (arith, frame-length) in
       let number : sameBytes (number-in f) (word-bytes (m .number)) ≡ true = sameBytes-decides _ _ .1 frame-number in
-      let named : Named (m .number) f k = record { below = below; some = λ z. omega arith; kind = ap kind-of frame-first ∙ kind-byte-of k } in
-      answer-ok m f room k (seen-is (m .number) f room (Ok k) (Seen.passed k named n fits number)) frame-opens
+      let some : length f ≡ 0 → ⊥ = λ z. omega arith in
+      let kind : kind-of (getD f 0 0) ≡ Some k = ap kind-of frame-first ∙ kind-byte-of k in
+      answer-ok m f room k (seen-is (m .number) f room (Seen.known-kind k below some kind (Fit.passed n fits number))) frame-opens
 
 -- What a receiving end accepts the sender could write.
 
@@ -178,14 +179,14 @@ module _ (m : Standing) (f : List ℕ) (room : ℕ) (k : Kind) where
       let same : j ≡ k = cc in
       let p = passes (m .number) f room j s in
       let n : length f ≡ text-length k + overhead = p .size ∙ ap (λ i. text-length i + overhead) same in
-      let first : getD f 0 0 ≡ kind-byte k = byte-of-kind (getD f 0 0) j (p .named .kind) ∙ ap kind-byte same in
+      let first : getD f 0 0 ≡ kind-byte k = byte-of-kind (getD f 0 0) j (p .kind) ∙ ap kind-byte same in
       let number : number-in f ≡ word-bytes (m .number) = sameBytes-decides _ _ .0 (p .number) in
       let enough : 5 ≤ length f = omega arith in
       let head : header-in f ≡ associated (kind-byte k) (m .number) = five f enough ∙ ap₂ _∷_ first number in
       let body = cipher-plain (m .state) (header-in f) (body-in f) in
       let tag = opens-tag (m .state) (header-in f) (body-in f) (tag-in f) o in
       record {
-        below = p .named .below;
+        below = p .below;
         size = length-plain (m .state) (header-in f) (body-in f) ∙ length-body f (text-length k) n;
         head = head;
         whole = parts f (text-length k) n ∙ ap₂ (λ a b. header-in f ++ (a ++ b)) (sym body) tag ∙ ap (λ a. a ++ (cipher (m .state) a (text-in m f) ++ tag-of (m .state) a (text-in m f))) head;

@@ -25,56 +25,58 @@ use Rattle.link.specs.Kinds.{text-length, kind-of}
 use Rattle.link.specs.Frames.{Standing, largest-number, overhead, header-in, number-in, body-in, tag-in, text-in}
 use Rattle.link.specs.Calls.{Checked, checked, known, fitting, take-answer, take-text}
 
--- A frame whose kind is known, at an end that is not spent.
-pub record Named (n : ℕ) (f : List ℕ) (k : Kind) : Type 0 where
-  pub below : n < largest-number
-  pub some : length f ≡ 0 → ⊥
-  pub kind : kind-of (getD f 0 0) ≡ Some k
+-- What is known of a frame of the kind k at each answer.
+pub data Fit (n : ℕ) (f : List ℕ) (room : ℕ) (k : Kind) : Checked → Type 0 where
+  long : (length f ≡ text-length k + overhead → ⊥) → Fit n f room k (Err (WrongLength (length f)))
+  short : length f ≡ text-length k + overhead → room < text-length k → Fit n f room k (Err (ShortBuffer room))
+  other : length f ≡ text-length k + overhead → text-length k ≤ room → sameBytes (number-in f) (word-bytes n) ≡ false → Fit n f room k (Err WrongNumber)
+  passed : length f ≡ text-length k + overhead → text-length k ≤ room → sameBytes (number-in f) (word-bytes n) ≡ true → Fit n f room k (Ok k)
 
--- What is known of a frame at each answer.
+module _ (n : ℕ) (f : List ℕ) (room : ℕ) (k : Kind) where
+  -- the checks answer what is known
+  pub fit-is : {r : Checked} → Fit n f room k r → r ≡ fitting n f room k
+  fit-is (long l) = sym (rw (ne-eqb (length f) (text-length k + overhead) l) refl)
+  fit-is (short l s) = sym (rw (eq-eqb (length f) (text-length k + overhead) l, lt-ltb room (text-length k) s) refl)
+  fit-is (other l s e) = sym (rw (eq-eqb (length f) (text-length k + overhead) l, le-ltb room (text-length k) s, e) refl)
+  fit-is (passed l s e) = sym (rw (eq-eqb (length f) (text-length k + overhead) l, le-ltb room (text-length k) s, e) refl)
+
+  -- and what they answer is known
+  at-number : length f ≡ text-length k + overhead → text-length k ≤ room → (b : Bool) → sameBytes (number-in f) (word-bytes n) ≡ b → Fit n f room k (cond b (Ok k) (Err WrongNumber))
+  at-number l r true e = passed l r e
+  at-number l r false e = other l r e
+
+  at-room : length f ≡ text-length k + overhead → (b : Bool) → ltb room (text-length k) ≡ b
+      → Fit n f room k (cond b (Err (ShortBuffer room)) (cond (sameBytes (number-in f) (word-bytes n)) (Ok k) (Err WrongNumber)))
+  at-room l true e = short l (ltb-true room (text-length k) e)
+  at-room l false e = at-number l (ltb-false room (text-length k) e) (sameBytes (number-in f) (word-bytes n)) refl
+
+  at-length : (b : Bool) → eqb (length f) (text-length k + overhead) ≡ b
+      → Fit n f room k (cond b (cond (ltb room (text-length k)) (Err (ShortBuffer room)) (cond (sameBytes (number-in f) (word-bytes n)) (Ok k) (Err WrongNumber))) (Err (WrongLength (length f))))
+  at-length true e = at-room (eqb-true (length f) (text-length k + overhead) e) (ltb room (text-length k)) refl
+  at-length false e = long (eqb-false (length f) (text-length k + overhead) e)
+
+-- The same of any frame.
 pub data Seen (n : ℕ) (f : List ℕ) (room : ℕ) : Checked → Type 0 where
   spent : largest-number ≤ n → Seen n f room (Err Spent)
   empty : n < largest-number → length f ≡ 0 → Seen n f room (Err Empty)
   unknown : n < largest-number → (length f ≡ 0 → ⊥) → kind-of (getD f 0 0) ≡ None → Seen n f room (Err UnknownKind)
-  long : (k : Kind) → Named n f k → (length f ≡ text-length k + overhead → ⊥) → Seen n f room (Err (WrongLength (length f)))
-  short : (k : Kind) → Named n f k → length f ≡ text-length k + overhead → room < text-length k → Seen n f room (Err (ShortBuffer room))
-  other : (k : Kind) → Named n f k → length f ≡ text-length k + overhead → text-length k ≤ room → sameBytes (number-in f) (word-bytes n) ≡ false → Seen n f room (Err WrongNumber)
-  passed : (k : Kind) → Named n f k → length f ≡ text-length k + overhead → text-length k ≤ room → sameBytes (number-in f) (word-bytes n) ≡ true → Seen n f room (Ok k)
+  known-kind : {r : Checked} (k : Kind) → n < largest-number → (length f ≡ 0 → ⊥) → kind-of (getD f 0 0) ≡ Some k → Fit n f room k r → Seen n f room r
 
 module _ (n : ℕ) (f : List ℕ) (room : ℕ) where
-  -- the checks answer what is known
-  checked-named : (k : Kind) → Named n f k → checked n f room ≡ fitting n f room k
+  pub checked-kind : n < largest-number → (length f ≡ 0 → ⊥) → (o : Option Kind) → kind-of (getD f 0 0) ≡ o → checked n f room ≡ known n f room o
   unfolding checked
-  checked-named k h = rw (lt-ltb n largest-number (h .below), ne-eqb (length f) 0 (h .some)) (ap (known n f room) (h .kind))
+  checked-kind h z o e = rw (lt-ltb n largest-number h, ne-eqb (length f) 0 z) (ap (known n f room) e)
 
-  pub seen-is : (r : Checked) → Seen n f room r → r ≡ checked n f room
+  pub seen-is : {r : Checked} → Seen n f room r → r ≡ checked n f room
   unfolding checked
-  seen-is (Err Spent) (spent h) = rw (le-ltb n largest-number h) refl
-  seen-is (Err Empty) (empty h z) = rw (lt-ltb n largest-number h, eq-eqb (length f) 0 z) refl
-  seen-is (Err UnknownKind) (unknown h z e) = sym (rw (lt-ltb n largest-number h, ne-eqb (length f) 0 z) (ap (known n f room) e))
-  seen-is _ (long k h l) = sym (checked-named k h ∙ rw (ne-eqb (length f) (text-length k + overhead) l) refl)
-  seen-is _ (short k h l s) = sym (checked-named k h ∙ rw (eq-eqb (length f) (text-length k + overhead) l, lt-ltb room (text-length k) s) refl)
-  seen-is _ (other k h l s e) = sym (checked-named k h ∙ rw (eq-eqb (length f) (text-length k + overhead) l, le-ltb room (text-length k) s, e) refl)
-  seen-is _ (passed k h l s e) = sym (checked-named k h ∙ rw (eq-eqb (length f) (text-length k + overhead) l, le-ltb room (text-length k) s, e) refl)
-
-  -- and what they answer is known
-  at-number : (k : Kind) → Named n f k → length f ≡ text-length k + overhead → text-length k ≤ room → (b : Bool) → sameBytes (number-in f) (word-bytes n) ≡ b → Seen n f room (cond b (Ok k) (Err WrongNumber))
-  at-number k h l r true e = passed k h l r e
-  at-number k h l r false e = other k h l r e
-
-  at-room : (k : Kind) → Named n f k → length f ≡ text-length k + overhead → (b : Bool) → ltb room (text-length k) ≡ b
-      → Seen n f room (cond b (Err (ShortBuffer room)) (cond (sameBytes (number-in f) (word-bytes n)) (Ok k) (Err WrongNumber)))
-  at-room k h l true e = short k h l (ltb-true room (text-length k) e)
-  at-room k h l false e = at-number k h l (ltb-false room (text-length k) e) (sameBytes (number-in f) (word-bytes n)) refl
-
-  at-length : (k : Kind) → Named n f k → (b : Bool) → eqb (length f) (text-length k + overhead) ≡ b
-      → Seen n f room (cond b (cond (ltb room (text-length k)) (Err (ShortBuffer room)) (cond (sameBytes (number-in f) (word-bytes n)) (Ok k) (Err WrongNumber))) (Err (WrongLength (length f))))
-  at-length k h true e = at-room k h (eqb-true (length f) (text-length k + overhead) e) (ltb room (text-length k)) refl
-  at-length k h false e = long k h (eqb-false (length f) (text-length k + overhead) e)
+  seen-is (spent h) = sym (rw (le-ltb n largest-number h) refl)
+  seen-is (empty h z) = sym (rw (lt-ltb n largest-number h, eq-eqb (length f) 0 z) refl)
+  seen-is (unknown h z e) = sym (checked-kind h z None e)
+  seen-is (known-kind k h z e fit) = fit-is n f room k fit ∙ sym (checked-kind h z (Some k) e)
 
   at-kind : n < largest-number → (length f ≡ 0 → ⊥) → (o : Option Kind) → kind-of (getD f 0 0) ≡ o → Seen n f room (known n f room o)
   at-kind h z None e = unknown h z e
-  at-kind h z (Some k) e = at-length k (record { below = h; some = z; kind = e }) (eqb (length f) (text-length k + overhead)) refl
+  at-kind h z (Some k) e = known-kind k h z e (at-length n f room k (eqb (length f) (text-length k + overhead)) refl)
 
   at-empty : n < largest-number → (b : Bool) → eqb (length f) 0 ≡ b → Seen n f room (cond b (Err Empty) (known n f room (kind-of (getD f 0 0))))
   at-empty h true e = empty h (eqb-true (length f) 0 e)
@@ -90,13 +92,14 @@ module _ (n : ℕ) (f : List ℕ) (room : ℕ) where
 
 -- a frame that passed
 pub record Passed (n : ℕ) (f : List ℕ) (room : ℕ) (k : Kind) : Type 0 where
-  pub named : Named n f k
+  pub below : n < largest-number
+  pub kind : kind-of (getD f 0 0) ≡ Some k
   pub size : length f ≡ text-length k + overhead
   pub roomy : text-length k ≤ room
   pub number : sameBytes (number-in f) (word-bytes n) ≡ true
 
 passed-of : {n : ℕ} {f : List ℕ} {room : ℕ} {k : Kind} → Seen n f room (Ok k) → Passed n f room k
-passed-of (passed k h l r e) = record { named = h; size = l; roomy = r; number = e }
+passed-of (known-kind k h z e (passed l r b)) = record { below = h; kind = e; size = l; roomy = r; number = b }
 
 pub passes : (n : ℕ) (f : List ℕ) (room : ℕ) (k : Kind) → Ok k ≡ checked n f room → Passed n f room k
 passes n f room k h = passed-of (subst (Seen n f room) (sym h) (seen n f room))
@@ -106,9 +109,9 @@ quiet-at : {n : ℕ} {f : List ℕ} {room : ℕ} {e : LinkFault} (m : Standing) 
 quiet-at m g old (spent _) = refl
 quiet-at m g old (empty _ _) = refl
 quiet-at m g old (unknown _ _ _) = refl
-quiet-at m g old (long _ _ _) = refl
-quiet-at m g old (short _ _ _ _) = refl
-quiet-at m g old (other _ _ _ _ _) = refl
+quiet-at m g old (known-kind _ _ _ _ (long _)) = refl
+quiet-at m g old (known-kind _ _ _ _ (short _ _)) = refl
+quiet-at m g old (known-kind _ _ _ _ (other _ _ _)) = refl
 
 module _ (m : Standing) (f : List ℕ) (room : ℕ) where
   pub quiet : (old : List ℕ) (e : LinkFault) → Err e ≡ checked (m .number) f room → take-text m f old (Err e) ≡ old

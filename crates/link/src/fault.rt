@@ -42,7 +42,7 @@ impl LinkFault {
             LinkFault::WrongLength { length } => (4, length),
             LinkFault::ShortBuffer { room } => (5, room),
             LinkFault::WrongNumber => (6, 1),
-            LinkFault::Session(fault) => return within_frame(fault),
+            LinkFault::Session(inner) => return within_frame(inner),
         };
         Refusal {
             number,

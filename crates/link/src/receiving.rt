@@ -4,7 +4,7 @@ ghost use Prim.Native.Nat.{ℕ};
 ghost use lib.ListN.{length};
 ghost use Rattle.std.specs.shelf.Text.{sameBytes};
 ghost use Rattle.link.specs.Frames.{Standing, started};
-ghost use Rattle.link.specs.Calls.{receiving, checked, take-answer, take-standing, take-text};
+ghost use Rattle.link.specs.Calls.{receiving, checked, fitting, take-answer, take-standing, take-text};
 use crate::fault::LinkFault;
 use crate::fault::LinkFaultFrom;
 use crate::frame::HEADER;
@@ -46,7 +46,7 @@ impl<E: Engine + Drop> ReceivingEnd<E> {
     pub fn close(self) -> u32
         ensures { λ r. ⌜ r ≡ receiving bits self .number ⌝ }
     {
-        self.number.value
+        self.tell()
     }
 
     // Takes a frame: its text stands at the front of `text`, and its kind is answered. The frame is opened on a copy of the session, so that a refusal leaves the end as it was.
@@ -55,16 +55,15 @@ impl<E: Engine + Drop> ReceivingEnd<E> {
         ensures moved { λ r. ⌜ receiving bits (now (self .exit)) ≡ take-standing (receiving bits (now (self .entry))) (now (frame .entry)) r ⌝ }
         ensures text { λ r. ⌜ now (text .exit) ≡ take-text (receiving bits (now (self .entry))) (now (frame .entry)) (now (text .entry)) r ⌝ }
     {
-        let kind = check(self.number.value, frame, text.len())?;
+        let Number { value: number } = self.number;
+        let kind = check(number, frame, text.len())?;
         let end = frame.len() - TAG;
         let mut tag = Tag { bytes: [0; 16] };
         tag.bytes.copy_from_slice(&frame[end..]);
         let mut trial = self.session.copy();
         trial.open(&frame[0..HEADER], &frame[HEADER..end], &tag, text)?;
         self.session = trial;
-        self.number = Number {
-            value: self.number.value + 1,
-        };
+        self.number = Number { value: number + 1 };
         Ok(kind)
     }
 }
@@ -79,18 +78,22 @@ fn check(number: u32, frame: &[u8], room: usize) -> Result<Kind, LinkFault>
     if frame.is_empty() {
         return Err(LinkFault::Empty);
     }
-    let Some(kind) = Kind::of(frame[0]) else {
-        return Err(LinkFault::UnknownKind);
-    };
+    match Kind::of(frame[0]) {
+        Some(kind) => fit(kind, number, frame, room),
+        None => Err(LinkFault::UnknownKind),
+    }
+}
+
+// Those that depend on the kind.
+fn fit(kind: Kind, number: u32, frame: &[u8], room: usize) -> Result<Kind, LinkFault>
+    ensures { λ r. ⌜ r ≡ fitting number (now (frame .entry)) room kind ⌝ }
+{
+    let length = frame.len();
     let [_kind, n0, n1, n2, n3, rest @ ..] = frame else {
-        return Err(LinkFault::WrongLength {
-            length: frame.len(),
-        });
+        return Err(LinkFault::WrongLength { length });
     };
     if rest.len() != kind.text_len() + TAG {
-        return Err(LinkFault::WrongLength {
-            length: frame.len(),
-        });
+        return Err(LinkFault::WrongLength { length });
     }
     if room < kind.text_len() {
         return Err(LinkFault::ShortBuffer { room });

@@ -52,7 +52,7 @@ impl<E: Engine + Drop> SendingEnd<E> {
     pub fn close(self) -> u32
         ensures { λ r. ⌜ r ≡ sending bits self .number ⌝ }
     {
-        self.number.value
+        self.tell()
     }
 
     // Writes the frame of a text to the front of `out`, and answers its length and the number that it carries.
@@ -66,8 +66,8 @@ impl<E: Engine + Drop> SendingEnd<E> {
         ensures moved { λ r. ⌜ sending bits (now (self .exit)) ≡ write-standing (sending bits (now (self .entry))) kind (now (text .entry)) (length (now (out .entry))) ⌝ }
         ensures out { λ r. ⌜ now (out .exit) ≡ write-out (sending bits (now (self .entry))) kind (now (text .entry)) (now (out .entry)) ⌝ }
     {
-        let known = check(self.number.value, kind, text, out.len())?;
-        let number = self.number.value;
+        let Number { value: number } = self.number;
+        let known = check(number, kind, text, out.len())?;
         let length = text.len() + OVERHEAD;
         let ad = header(known, number);
         lay(&mut self.session, &ad, text, &mut out[0..length])?;

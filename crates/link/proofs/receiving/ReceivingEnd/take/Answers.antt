@@ -45,7 +45,7 @@ pub part-open-start-2 : need.part-open-start-2
 part-open-start-2 g c = part-open-count-2 g c
 
 pub ghost-self : need.ghost-self
-ghost-self g c = let n = passes _ _ _ _ (c .in-Continue-kind .ensures tt) .named .below in (omega arith, tt)
+ghost-self g c = let n = passes _ _ _ _ (c .in-Continue-kind .ensures tt) .below in (omega arith, tt)
 
 pub returns-in-Break-open : need.returns-in-Break-open
 returns-in-Break-open g c =
