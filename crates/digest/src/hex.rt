@@ -17,7 +17,7 @@ fn digit_value(c: u8) -> Result<u8, AnyError>
 }
 
 // Appends the bytes that the digits write.
-pub fn push_bytes(bytes: &mut Vec<u8>, digits: &str) -> Result<(), AnyError> {
+pub(crate) fn push_bytes(bytes: &mut Vec<u8>, digits: &str) -> Result<(), AnyError> {
     let mut rest = digits.as_bytes();
     while let [high, low, more @ ..] = rest {
         bytes.push(16 * digit_value(*high)? + digit_value(*low)?)?;
@@ -31,7 +31,7 @@ pub fn push_bytes(bytes: &mut Vec<u8>, digits: &str) -> Result<(), AnyError> {
 }
 
 // Writes bytes as lower-case hex.
-pub fn write_bytes(out: &mut impl Write, bytes: &[u8]) -> io::Result<()> {
+pub(crate) fn write_bytes(out: &mut impl Write, bytes: &[u8]) -> io::Result<()> {
     for b in bytes {
         write!(out, "{b:02x}")?;
     }

@@ -78,7 +78,7 @@ fn print_bytes(out: &mut BufWriter<Stdout>, bytes: &[u8]) -> Result<(), AnyError
 }
 
 // `strings LENGTH [STRING...]`
-pub fn digest_strings(
+pub(crate) fn digest_strings(
     rt: &LibcRuntime,
     out: &mut BufWriter<Stdout>,
     mut args: Args,
@@ -92,7 +92,7 @@ pub fn digest_strings(
 }
 
 // `derive KEY LENGTH [STRING...]`
-pub fn derive_key(
+pub(crate) fn derive_key(
     rt: &LibcRuntime,
     out: &mut BufWriter<Stdout>,
     mut args: Args,

@@ -28,7 +28,11 @@ fn complain(rt: &LibcRuntime, name: &str, error: &io::Error) -> io::Result<()> {
 }
 
 // Prints the line of a file, or says why there is none. Answers whether it printed one.
-pub fn print_line(rt: &LibcRuntime, out: &mut BufWriter<Stdout>, name: &str) -> io::Result<bool> {
+pub(crate) fn print_line(
+    rt: &LibcRuntime,
+    out: &mut BufWriter<Stdout>,
+    name: &str,
+) -> io::Result<bool> {
     match digest_file(rt, name) {
         Ok(digest) => {
             hex::write_bytes(out, &digest)?;
@@ -100,7 +104,7 @@ fn check_lines<R: Read + Drop>(
 }
 
 // The same of a list by its name.
-pub fn check_list(
+pub(crate) fn check_list(
     rt: &LibcRuntime,
     out: &mut BufWriter<Stdout>,
     list: &str,

@@ -10,7 +10,7 @@ use std::io::Read;
 type Chosen = Postponed;
 
 // The digest of an input as one string, read in pieces.
-pub fn digest_input<R: Read>(input: &mut R) -> io::Result<[u8; 32]> {
+pub(crate) fn digest_input<R: Read>(input: &mut R) -> io::Result<[u8; 32]> {
     let mut feeding = Feeding::<Chosen>::new();
     let mut chunk = [0u8; 16384];
     for _ in 0..u64::MAX {
@@ -28,12 +28,16 @@ pub fn digest_input<R: Read>(input: &mut R) -> io::Result<[u8; 32]> {
 }
 
 // The digest of a list of strings.
-pub fn digest_list(buffer: &[u8], entries: &[Entry], out: &mut [u8]) -> Result<(), EntryFault> {
+pub(crate) fn digest_list(
+    buffer: &[u8],
+    entries: &[Entry],
+    out: &mut [u8],
+) -> Result<(), EntryFault> {
     digests::digest::<Chosen>(buffer, entries, out)
 }
 
 // The deck function of a key and a list of strings.
-pub fn deck_list(
+pub(crate) fn deck_list(
     key: &[u8],
     buffer: &[u8],
     entries: &[Entry],
