@@ -7,10 +7,11 @@ use native.Mathlib.Omega.{arith}
 use lib.Dec.{ltb}
 use lib.ListN.{length, take, drop}
 use Rattle.std.specs.declared.result.Result.the-variants.{Ok, Err}
+use Rattle.std.specs.shelf.Text.{sameBytes}
 use Rattle.std.proofs.shelf.Equals.{sameBytes-decides}
 use Rattle.std.proofs.shelf.Lists.{take-at}
 use Rattle.std.proofs.shelf.Tests.{lt-ltb, le-ltb}
-use Rattle.duplex.specs.Strings.{absorbed, squeezed, readings}
+use Rattle.duplex.specs.Strings.{absorbed, deciphered, blanked, squeezed, readings, drained}
 use Rattle.strings.proofs.Blocks.{deciphered-enciphered, enciphered-deciphered, length-enciphered, length-deciphered}
 use Rattle.session.specs.declared.fault.SessionFault.{SessionFault}
 use Rattle.session.specs.declared.fault.SessionFault.the-variants.{Short, Tag}
@@ -81,6 +82,13 @@ module _ (s ad c tag : List ℕ) (room : ℕ) where
       at : (accepted : Bool) → opens s ad c tag ≡ accepted → verdict c accepted ≡ Err f → (f ≡ Tag (length c)) × (opens s ad c tag ≡ false)
       at true o h = let z : _≡_ {A = ℕ} 0 1 = cc in absurd (omega arith)
       at false o h = (cc, o)
+
+-- what the calls of an opening come to, from the bits s to s₁ after the associated data, s₂ after the text and s₃ after the tag
+pub opened-whole : (s s₁ s₂ s₃ ad c copied text found tag : List ℕ) (accepted : Bool) → copied ≡ c → s₁ ≡ absorbed s ad → text ≡ deciphered s₁ copied → s₂ ≡ absorbed s₁ (deciphered s₁ copied)
+    → found ≡ squeezed (blanked s₂ 8) 16 → s₃ ≡ drained (blanked s₂ 8) 16 → accepted ≡ sameBytes found tag
+    → (text ≡ plain s ad c) × (s₃ ≡ after s ad (plain s ad c)) × (accepted ≡ opens s ad c tag)
+unfolding plain tag-of after opens
+opened-whole s s₁ s₂ s₃ ad c copied text found tag accepted e₀ e₁ e₂ e₃ e₄ e₅ e₆ = (cc, cc, cc)
 
 -- what an opening with room enough leaves
 pub verdict-bits : (s ad c : List ℕ) (accepted : Bool) → open-bits s ad c (verdict c accepted) ≡ after s ad (plain s ad c)
