@@ -34,10 +34,6 @@ pub or-false : (b : Bool) → (b || false) ≡ b
 or-false true = refl
 or-false false = refl
 
-or-assoc : (a b c : Bool) → ((a || b) || c) ≡ (a || (b || c))
-or-assoc true b c = refl
-or-assoc false b c = refl
-
 -- whether a string has begun, where bytes from i on are still to come
 pub begun-turn : (b : Bool) (xs : List ℕ) (i : ℕ) → i < length xs → (b || some-bytes (drop i xs)) ≡ (true || some-bytes (drop (i + 1) xs))
 begun-turn b xs i h = at-drop-more (λ r. b || some-bytes r) xs i 0 h ∙ or-true b

@@ -15,10 +15,6 @@ use Rattle.std.proofs.shelf.Tests.{and-parts, ltb-true}
 use Rattle.duplex.specs.State.{position, positions, bit, add-at, add-bits, number}
 use Rattle.duplex.proofs.Tables.{every, every-at}
 
-pub length-positions : length positions ≡ 33
-unfolding positions
-length-positions = length-map-counting position 0 33
-
 -- the table at each place
 pub getD-positions : (j : ℕ) → j < 33 → getD positions j 0 ≡ position j
 unfolding positions

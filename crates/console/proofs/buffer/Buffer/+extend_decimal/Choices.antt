@@ -1,3 +1,4 @@
+-- The number falls.
 use Rattle.console.proofs.buffer.Buffer.+extend_decimal.Given as given
 
 abbrev pub μ-extend-decimal : given.MeasureT-extend-decimal

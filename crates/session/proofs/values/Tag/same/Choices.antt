@@ -1,3 +1,4 @@
+-- What the differences of the bytes so far add up to.
 use Rattle.session.proofs.Differences.{Folds}
 use Rattle.session.proofs.values.Tag.same.Given as given
 
