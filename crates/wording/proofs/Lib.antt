@@ -1,0 +1,2 @@
+mod TermLaws
+mod RunLaws
