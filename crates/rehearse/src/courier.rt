@@ -53,7 +53,7 @@ fn telling(heap: Global) -> Dispatch {
 }
 
 // The orders that a script has for the panel.
-pub fn list_orders(heap: Global, entries: &[Entry]) -> Result<Vec<Dispatch>, AllocError> {
+pub(crate) fn list_orders(heap: Global, entries: &[Entry]) -> Result<Vec<Dispatch>, AllocError> {
     let mut orders = Vec::new(heap);
     for entry in entries {
         match &entry.step {
@@ -70,7 +70,7 @@ pub fn list_orders(heap: Global, entries: &[Entry]) -> Result<Vec<Dispatch>, All
 }
 
 // The frame that a dispatch has written, if it has.
-pub fn frame_of(heap: Global, dispatch: &Dispatch) -> Result<Option<Vec<u8>>, AllocError> {
+pub(crate) fn frame_of(heap: Global, dispatch: &Dispatch) -> Result<Option<Vec<u8>>, AllocError> {
     match dispatch.receipt {
         Receipt::Wrote(size, _) => {
             let frame = dispatch.buffer.iter().take(size).copied().collect(heap)?;
@@ -94,7 +94,7 @@ pub struct Courier {
 }
 
 impl Courier {
-    pub fn new(heap: Global) -> Courier {
+    pub(crate) fn new(heap: Global) -> Courier {
         Courier {
             frames: Vec::new(heap),
             left: 0,
@@ -269,7 +269,7 @@ impl Courier {
         }
     }
 
-    pub fn carry_all(
+    pub(crate) fn carry_all(
         &mut self,
         heap: Global,
         entries: &[Entry],
@@ -282,7 +282,7 @@ impl Courier {
     }
 
     // The calls and the notes that it has made.
-    pub fn finish(self) -> (Vec<Exchange>, Vec<Note>) {
+    pub(crate) fn finish(self) -> (Vec<Exchange>, Vec<Note>) {
         let Courier {
             frames: _,
             left: _,

@@ -18,7 +18,7 @@ pub struct Words<'a> {
 
 impl<'a> Words<'a> {
     // The words of a line, up to a `#`.
-    pub fn new(line: &'a [u8]) -> Words<'a> {
+    pub(crate) fn new(line: &'a [u8]) -> Words<'a> {
         let end = before(line, Stop::Byte(b'#'));
         Words {
             rest: &line[0..end],
@@ -27,11 +27,11 @@ impl<'a> Words<'a> {
     }
 
     // The column past the words that were given.
-    pub fn column(&self) -> usize {
+    pub(crate) fn column(&self) -> usize {
         self.column
     }
 
-    pub fn next(&mut self) -> Option<Word<'a>> {
+    pub(crate) fn next(&mut self) -> Option<Word<'a>> {
         let gap = before(self.rest, Stop::Word);
         let begun = &self.rest[gap..];
         if begun.is_empty() {

@@ -40,7 +40,7 @@ fn pass<W: Engine + Drop, R: Engine + Drop>(
 }
 
 // Passes heartbeats from a panel to a head until all numbers are used, and tries one more.
-pub fn pass_all<W: Engine + Drop, R: Engine + Drop>(key: &Key, nonce: &Nonce) -> Tally {
+pub(crate) fn pass_all<W: Engine + Drop, R: Engine + Drop>(key: &Key, nonce: &Nonce) -> Tally {
     let mut panel = SendingEnd::<W>::begin(key, nonce);
     let mut head = ReceivingEnd::<R>::begin(key, nonce);
     let mut passed = 0;
@@ -64,7 +64,7 @@ pub fn pass_all<W: Engine + Drop, R: Engine + Drop>(key: &Key, nonce: &Nonce) ->
 
 impl Tally {
     // Whether all numbers were used, and no more.
-    pub fn is_full(&self) -> bool {
+    pub(crate) fn is_full(&self) -> bool {
         match (self.unwritten, self.untaken) {
             (Some(LinkFault::Spent), Some(LinkFault::Spent)) => {
                 self.passed == MILLION && self.panel == MILLION && self.head == MILLION

@@ -219,7 +219,7 @@ impl Script {
         Ok(())
     }
 
-    pub fn read(heap: Global, text: &[u8]) -> Result<Script, AllocError> {
+    pub(crate) fn read(heap: Global, text: &[u8]) -> Result<Script, AllocError> {
         let mut script = Script {
             entries: Vec::new(heap),
             opening: None,

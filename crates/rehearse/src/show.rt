@@ -169,7 +169,11 @@ fn put_closing(out: &mut Out, heap: Global, all: &Rehearsed) -> Result<(), AnyEr
 }
 
 // Prints a rehearsal, and answers whether every line was carried out.
-pub fn print_rehearsal(rt: &LibcRuntime, out: &mut Out, all: &Rehearsed) -> Result<bool, AnyError> {
+pub(crate) fn print_rehearsal(
+    rt: &LibcRuntime,
+    out: &mut Out,
+    all: &Rehearsed,
+) -> Result<bool, AnyError> {
     let mut good = true;
     for note in all.notes.iter() {
         let line = note.line;
@@ -186,7 +190,7 @@ pub fn print_rehearsal(rt: &LibcRuntime, out: &mut Out, all: &Rehearsed) -> Resu
 }
 
 // Prints why no line was carried out.
-pub fn print_faults(rt: &LibcRuntime, out: &mut Out, entries: &[Entry]) -> io::Result<()> {
+pub(crate) fn print_faults(rt: &LibcRuntime, out: &mut Out, entries: &[Entry]) -> io::Result<()> {
     for entry in entries {
         if let Err(fault) = entry.step {
             complain(rt, out, entry.line, fault)?;
@@ -196,7 +200,7 @@ pub fn print_faults(rt: &LibcRuntime, out: &mut Out, entries: &[Entry]) -> io::R
 }
 
 // Prints what came of all the numbers.
-pub fn print_tally(out: &mut Out, tally: &Tally) -> io::Result<()> {
+pub(crate) fn print_tally(out: &mut Out, tally: &Tally) -> io::Result<()> {
     let passed = tally.passed;
     let panel = tally.panel;
     let head = tally.head;

@@ -58,7 +58,7 @@ fn list_kept(heap: Global, calls: &[Exchange]) -> Result<Vec<Exchange>, AllocErr
 }
 
 // Which frames there are to hand over shows once the panel has written them, and which calls the second end is given once the head has answered. So the orders are rehearsed alone, then with the calls, and at last all three lists together: only that rehearsal is told.
-pub fn perform(
+pub(crate) fn perform(
     heap: Global,
     key: &Key,
     nonce: &Nonce,
@@ -115,12 +115,12 @@ fn is_alike(a: &Exchange, b: &Exchange) -> bool {
 
 impl Rehearsed {
     // The numbers of panel and head.
-    pub fn numbers(&self) -> (u32, u32) {
+    pub(crate) fn numbers(&self) -> (u32, u32) {
         (self.ends.sender.tell(), self.ends.first.tell())
     }
 
     // Whether the frames that the head has accepted are all those that the panel has written. By the contract of `rehearse` both ends then stand at the same bits.
-    pub fn took_all(&self, heap: Global) -> Result<bool, AllocError> {
+    pub(crate) fn took_all(&self, heap: Global) -> Result<bool, AllocError> {
         let written = list_frames(heap, self.orders.as_slice())?;
         let mut count = 0usize;
         for call in self.calls.iter() {
@@ -137,7 +137,7 @@ impl Rehearsed {
     }
 
     // Whether the second end has answered its calls as the head did.
-    pub fn second_agrees(&self) -> bool {
+    pub(crate) fn second_agrees(&self) -> bool {
         let mut kept = 0usize;
         for call in self.calls.iter() {
             if let Reply::Refused(_) = call.reply {
