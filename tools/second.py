@@ -1,5 +1,5 @@
 #!/usr/bin/env python3
-"""A second program, written from the rules under docs/ alone.
+"""A second program, by the rules under docs/.
 
 It works on a list of 257 single bits and follows the documents' words, not
 any other program. Other tools may import it: chi, iota, theta and pi are
