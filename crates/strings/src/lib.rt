@@ -14,14 +14,14 @@ pub struct Duplex<E> {
 impl<E: Engine> Duplex<E> {
     // All bits zero.
     pub fn new() -> Duplex<E>
-        ensures { bits result.engine ≡ zeros }
+        ensures { E.bits result.engine ≡ zeros }
     {
         Duplex { engine: E::new() }
     }
 
     // A second object that means the same bits.
     pub fn copy(&self) -> Duplex<E>
-        ensures { bits result.engine ≡ bits self.now.engine }
+        ensures { E.bits result.engine ≡ E.bits self.now.engine }
     {
         Duplex {
             engine: self.engine.copy(),
@@ -30,7 +30,7 @@ impl<E: Engine> Duplex<E> {
 
     // Absorbs a keyed string: four bytes a step, and a last step with the 0 to 3 bytes that are left.
     pub fn absorb(&mut self, text: &[u8])
-        ensures { bits self.new.engine ≡ absorbed (bits self.old.engine) text.now }
+        ensures { E.bits self.new.engine ≡ absorbed (E.bits self.old.engine) text.now }
     {
         let mut rest = text;
         while rest.len() >= 4 {
@@ -42,7 +42,7 @@ impl<E: Engine> Duplex<E> {
 
     // Absorbs an unkeyed string: a byte a step and a last step with none, each followed by an empty one.
     pub fn absorb_unkeyed(&mut self, text: &[u8])
-        ensures { bits self.new.engine ≡ absorbed_unkeyed (bits self.old.engine) text.now }
+        ensures { E.bits self.new.engine ≡ absorbed_unkeyed (E.bits self.old.engine) text.now }
     {
         for byte in text {
             self.step(&[*byte]);
@@ -53,24 +53,24 @@ impl<E: Engine> Duplex<E> {
 
     // Encrypts in place.
     pub fn encrypt(&mut self, text: &mut [u8])
-        ensures sum { text.new ≡ enciphered (bits self.old.engine) text.old }
-        ensures moved { bits self.new.engine ≡ absorbed (bits self.old.engine) text.old }
+        ensures sum { text.new ≡ enciphered (E.bits self.old.engine) text.old }
+        ensures moved { E.bits self.new.engine ≡ absorbed (E.bits self.old.engine) text.old }
     {
         self.crypt(text, false);
     }
 
     // Decrypts in place. From the state that encrypted a text, this gives the text back, and both sides then mean the same bits.
     pub fn decrypt(&mut self, text: &mut [u8])
-        ensures sum { text.new ≡ deciphered (bits self.old.engine) text.old }
-        ensures moved { bits self.new.engine ≡ absorbed (bits self.old.engine) (deciphered (bits self.old.engine) text.old) }
-        ensures undoes { (t : List ℕ) → text.old ≡ enciphered (bits self.old.engine) t → (text.new ≡ t) × (bits self.new.engine ≡ absorbed (bits self.old.engine) t) }
+        ensures sum { text.new ≡ deciphered (E.bits self.old.engine) text.old }
+        ensures moved { E.bits self.new.engine ≡ absorbed (E.bits self.old.engine) (deciphered (E.bits self.old.engine) text.old) }
+        ensures undoes { (t : List ℕ) → text.old ≡ enciphered (E.bits self.old.engine) t → (text.new ≡ t) × (E.bits self.new.engine ≡ absorbed (E.bits self.old.engine) t) }
     {
         self.crypt(text, true);
     }
 
     // Steps with the empty block.
     pub fn blank(&mut self, times: usize)
-        ensures { bits self.new.engine ≡ blanked (bits self.old.engine) times }
+        ensures { E.bits self.new.engine ≡ blanked (E.bits self.old.engine) times }
     {
         for _ in 0..times {
             self.step(&[]);
@@ -79,8 +79,8 @@ impl<E: Engine> Duplex<E> {
 
     // Fills `out` with readings, each followed by an empty step; bytes over are dropped.
     pub fn squeeze(&mut self, out: &mut [u8])
-        ensures sum { out.new ≡ squeezed (bits self.old.engine) (length out.old) }
-        ensures moved { bits self.new.engine ≡ drained (bits self.old.engine) (length out.old) }
+        ensures sum { out.new ≡ squeezed (E.bits self.old.engine) (length out.old) }
+        ensures moved { E.bits self.new.engine ≡ drained (E.bits self.old.engine) (length out.old) }
     {
         let mut i = 0;
         while i < out.len() {
@@ -94,15 +94,15 @@ impl<E: Engine> Duplex<E> {
     // A step with a block of at most four bytes.
     fn step(&mut self, block: &[u8])
         requires { length block.now ≤ 4 }
-        ensures { bits self.new.engine ≡ step (bits self.old.engine) (padded block.now) }
+        ensures { E.bits self.new.engine ≡ step (E.bits self.old.engine) (padded block.now) }
     {
         self.engine.step(block_number(block));
     }
 
     // A reading as four bytes, and an empty step after it.
     fn squeeze_word(&mut self) -> [u8; 4]
-        ensures value { result ≡ word_bytes (reading (bits self.old.engine)) }
-        ensures moved { bits self.new.engine ≡ step (bits self.old.engine) (padded []) }
+        ensures value { result ≡ word_bytes (reading (E.bits self.old.engine)) }
+        ensures moved { E.bits self.new.engine ≡ step (E.bits self.old.engine) (padded []) }
     {
         let word = self.engine.read();
         self.step(&[]);
@@ -111,8 +111,8 @@ impl<E: Engine> Duplex<E> {
 
     // Encrypts or decrypts in place.
     fn crypt(&mut self, text: &mut [u8], decrypts: bool)
-        ensures sum { text.new ≡ (if decrypts then deciphered (bits self.old.engine) text.old else enciphered (bits self.old.engine) text.old) }
-        ensures moved { bits self.new.engine ≡ absorbed (bits self.old.engine) (if decrypts then deciphered (bits self.old.engine) text.old else text.old) }
+        ensures sum { text.new ≡ (if decrypts then deciphered (E.bits self.old.engine) text.old else enciphered (E.bits self.old.engine) text.old) }
+        ensures moved { E.bits self.new.engine ≡ absorbed (E.bits self.old.engine) (if decrypts then deciphered (E.bits self.old.engine) text.old else text.old) }
     {
         let mut i = 0;
         while text.len() - i >= 4 {
@@ -125,8 +125,8 @@ impl<E: Engine> Duplex<E> {
     // Adds the reading to a block of at most four bytes, and steps with the text block: the sum where this decrypts, else the block as it came.
     fn crypt_block(&mut self, block: &mut [u8], decrypts: bool)
         requires { length block.old ≤ 4 }
-        ensures sum { block.new ≡ masked (reading (bits self.old.engine)) block.old }
-        ensures moved { bits self.new.engine ≡ step (bits self.old.engine) (padded (if decrypts then block.new else block.old)) }
+        ensures sum { block.new ≡ masked (reading (E.bits self.old.engine)) block.old }
+        ensures moved { E.bits self.new.engine ≡ step (E.bits self.old.engine) (padded (if decrypts then block.new else block.old)) }
     {
         let given = block_number(block);
         mask(block, self.engine.read());

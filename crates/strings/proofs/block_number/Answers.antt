@@ -3,4 +3,4 @@ use Rattle.strings.proofs.Blocks.{number_padded}
 use Rattle.strings.proofs.block_number.Goals as goal
 
 pub returns : goal.returns
-returns c = number_padded c.args.block.now c.copy-from-slice.new.self c.from-le-bytes.result c.requires c.copy-from-slice.ensures.after c.from-le-bytes.ensures
+returns c = number_padded c.args.block.now c.copy_from_slice.new.self c.from_le_bytes.result c.requires c.copy_from_slice.ensures.after c.from_le_bytes.ensures

@@ -8,13 +8,13 @@ loop-text-preserved g c =
     let bits = g.E.Engine.bits in
     let fits : c.loop-text.i + 4 ≤ length c.loop-text.text = omega arith in (
       search rules,
-      crypt_turn c.args.decrypts (bits c.loop-text.self.engine) (bits c.crypt-block.new.self.engine) c.loop-text.text c.crypt-block.new.block _ _ c.loop-text.i
-          fits c.crypt-block.ensures.sum c.crypt-block.ensures.moved c.loop-text.invariant.1,
+      crypt_turn c.args.decrypts (bits c.loop-text.self.engine) (bits c.crypt_block.new.self.engine) c.loop-text.text c.crypt_block.new.block _ _ c.loop-text.i
+          fits c.crypt_block.ensures.sum c.crypt_block.ensures.moved c.loop-text.invariant.1,
     )
 
 pub returns : goal.returns
 returns g c =
     let bits = g.E.Engine.bits in
-    let end = crypt_end c.args.decrypts (bits c.loop-text.self.engine) (bits c.crypt-block-2.new.self.engine) c.loop-text.text c.crypt-block-2.new.block _ _ c.loop-text.i
-    (omega arith) c.crypt-block-2.ensures.sum c.crypt-block-2.ensures.moved c.loop-text.invariant.1 in
+    let end = crypt_end c.args.decrypts (bits c.loop-text.self.engine) (bits c.crypt_block-2.new.self.engine) c.loop-text.text c.crypt_block-2.new.block _ _ c.loop-text.i
+    (omega arith) c.crypt_block-2.ensures.sum c.crypt_block-2.ensures.moved c.loop-text.invariant.1 in
     record { sum = end.0; moved = end.1 }

@@ -6,8 +6,8 @@ use Rattle.strings.proofs.Duplex.squeeze.Goals as goal
 pub loop-i-preserved : goal.loop-i-preserved
 loop-i-preserved g c =
     let bits = g.E.Engine.bits in
-    squeeze_turn (bits c.loop-i.self.engine) (bits c.squeeze-word-word.new.self.engine) c.loop-i.out c.copy-from-slice.new.self c.squeeze-word-word.result _ _ (length c.args.out.now) c.loop-i.i c.min-n.result
-    c.loop-i.auto.out (omega arith) c.min-n.ensures c.squeeze-word-word.ensures.value c.copy-from-slice.ensures.after c.squeeze-word-word.ensures.moved c.loop-i.invariant
+    squeeze_turn (bits c.loop-i.self.engine) (bits c.squeeze_word-word.new.self.engine) c.loop-i.out c.copy_from_slice.new.self c.squeeze_word-word.result _ _ (length c.args.out.now) c.loop-i.i c.min-n.result
+    c.loop-i.auto.out (omega arith) c.min-n.ensures c.squeeze_word-word.ensures.value c.copy_from_slice.ensures.after c.squeeze_word-word.ensures.moved c.loop-i.invariant
 
 pub returns : goal.returns
 returns g c =
