@@ -20,7 +20,7 @@ loop-init g c = let all : c.args.count - 0 ≡ c.args.count = omega arith in (om
 
 pub loop-preserved : goal.loop-preserved
 loop-preserved g c =
-    (c.read-word.type-inv, more _ _ _ _ _ _ _ c.loop-test.true c.from.ensures c.step.ensures c.read-word.ensures ∙ c.loop.invariant.1)
+    (c.read-word.type_inv, more _ _ _ _ _ _ _ c.loop-test.true c.from.ensures c.step.ensures c.read-word.ensures ∙ c.loop.invariant.1)
 
 pub returns : goal.returns
 returns g c = none (g.E.Engine.bits c.loop.engine) c.loop.word c.args.count c.loop.counter c.loop-test.false ∙ c.loop.invariant.1

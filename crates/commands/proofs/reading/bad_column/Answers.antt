@@ -5,11 +5,11 @@ use Rattle.hex.proofs.HexLaws.{bad_within}
 use Rattle.commands.proofs.LineLaws.{column_of, column_none}
 use Rattle.commands.proofs.reading.bad_column.Goals as goal
 
-pub returns-then-is-empty : goal.returns-then-is-empty
-returns-then-is-empty c = column_none c.args.digits.now (search rules)
+pub returns-then-is_empty : goal.returns-then-is_empty
+returns-then-is_empty c = column_none c.args.digits.now (search rules)
 
-pub overflow-add-result : goal.overflow-add-result
-overflow-add-result c = omega (arith, bad_within Lower c.args.digits.now c.in-Some.place c.in-Some.ensures)
+pub overflow_add-result : goal.overflow_add-result
+overflow_add-result c = omega (arith, bad_within Lower c.args.digits.now c.in-Some.place c.in-Some.ensures)
 
 pub returns-in-Some : goal.returns-in-Some
 returns-in-Some c = column_of c.args.digits.now _ (search rules) c.in-Some.ensures

@@ -4,9 +4,9 @@ use Rattle.commands.specs.Lines.{with_count}
 use Rattle.commands.proofs.LineLaws.{count_follows, count_no_blank}
 use Rattle.commands.proofs.reading.with_number.Goals as goal
 
-pub returns-in-default : goal.returns-in-default
+pub returns-in_default : goal.returns-in_default
 unfolding with_count
-returns-in-default c = search rules
+returns-in_default c = search rules
 
 pub returns-then-blank-ne32 : goal.returns-then-blank-ne32
 returns-then-blank-ne32 c = search (rules, count_no_blank)

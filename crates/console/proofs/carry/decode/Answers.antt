@@ -11,15 +11,15 @@ loop-i-preserved c =
     let line = c.args.line.now in
     let high = c.digit.ensures.value in
     let low = c.digit-in-loop-i.ensures.value in
-    let size = c.saturating-sub-n.ensures in (
+    let size = c.saturating_sub-n.ensures in (
       length-set text i _ ∙ c.loop-i.invariant.0,
       unhex_more line text i _ (omega arith) (omega arith) (cc) ∙ c.loop-i.invariant.1,
     )
 
 pub returns : goal.returns
 returns c =
-    let size = c.saturating-sub-n.ensures in
-    let n = c.saturating-sub-n.result / 2 in
+    let size = c.saturating_sub-n.ensures in
+    let n = c.saturating_sub-n.result / 2 in
     let e : n ≡ c.loop-i.i = omega arith in
     record {
       text = ap (λ k. take k c.loop-i.text) e ∙ sym (unhex_none c.args.line.now c.loop-i.text c.loop-i.i (omega arith)) ∙ c.loop-i.invariant.1;

@@ -7,5 +7,5 @@ use Rattle.console.proofs.carry.hex_line.Goals as goal
 
 pub returns : goal.returns
 returns c =
-    kept_new _ _ _ c.new-reply.ensures (kept_then _ _ _ _ _ c.extend-hex.ensures c.push.ensures)
+    kept_new _ _ _ c.new-reply.ensures (kept_then _ _ _ _ _ c.extend_hex.ensures c.push.ensures)
     (simp length-append (omega (arith, length-hex c.args.bytes.now)))

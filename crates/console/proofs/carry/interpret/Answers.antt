@@ -29,5 +29,5 @@ returns-in-Err g c =
     let line = c.args.line.now in
     record {
       moved = ap (bits_by s (string_of line)) c.in-Err.ensures;
-      reply = c.refusal-line.ensures ∙ ap (λ r. text_by s (string_of line) c.args.number r ++ line_feed ∷ []) c.in-Err.ensures;
+      reply = c.refusal_line.ensures ∙ ap (λ r. text_by s (string_of line) c.args.number r ++ line_feed ∷ []) c.in-Err.ensures;
     }

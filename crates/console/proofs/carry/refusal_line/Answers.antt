@@ -9,8 +9,8 @@ pub returns : goal.returns
 returns c =
     let r = c.refusal-refusal.result in
     let n = c.args.number in
-    let first = c.extend-decimal.ensures ∙ ap (λ m. kept (held c.extend.new.self) (decimal m)) c.from.ensures in
+    let first = c.extend_decimal.ensures ∙ ap (λ m. kept (held c.extend.new.self) (decimal m)) c.from.ensures in
     let pieces = kept_then _ _ _ _ _ (kept_then _ _ _ _ _ (kept_then _ _ _ _ _ (kept_then _ _ _ _ _ (kept_then _ _ _ _ _ (kept_then _ _ _ _ _
-    c.extend.ensures first) c.push.ensures) c.extend-decimal-2.ensures) c.push-2.ensures) c.extend-decimal-3.ensures) c.push-3.ensures in
+    c.extend.ensures first) c.push.ensures) c.extend_decimal-2.ensures) c.push-2.ensures) c.extend_decimal-3.ensures) c.push-3.ensures in
     kept_new _ (refused n r ++ line_feed ∷ []) _ c.new-reply.ensures pieces (length-refused n r (omega arith) (omega arith) (omega arith))
     ∙ ap (λ r. refused n r ++ line_feed ∷ []) c.refusal-refusal.ensures

@@ -4,9 +4,9 @@ use Rattle.console.specs.Lines.{with_string}
 use Rattle.console.proofs.LineLaws.{string_digits, string_no_blank}
 use Rattle.console.proofs.reading.with_hex.Goals as goal
 
-pub returns-in-default : goal.returns-in-default
+pub returns-in_default : goal.returns-in_default
 unfolding with_string
-returns-in-default c = search rules
+returns-in_default c = search rules
 
 pub returns-then-blank-ne32 : goal.returns-then-blank-ne32
 returns-then-blank-ne32 c = search (rules, string_no_blank)

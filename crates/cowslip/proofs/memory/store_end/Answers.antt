@@ -1,7 +1,7 @@
 -- The mark, the bits and the number fill the memory, and are found there again.
 use Rattle.std.proofs.Common.{◌≡◌, ap, ◌∙◌, subst, ap₂}
 use borrow.Rule.Slice.PartMut.{put_mid}
-use Rattle.duplex.specs.Bytes.{bytes-of-state, state-of-bytes}
+use Rattle.duplex.specs.Bytes.{bytes_of-state, state-of-bytes}
 use Rattle.duplex.specs.Strings.{word_bytes}
 use Rattle.postponed.specs.Meaning.{meant}
 use Rattle.link.specs.Frames.{Standing, standing-of}
@@ -11,15 +11,15 @@ use Rattle.cowslip.proofs.memory.store_end.Goals as goal
 
 pub returns : goal.returns
 returns g c =
-    let n = c.into-parts-number.result.1 in
+    let n = c.into_parts-number.result.1 in
     let e = meant c.suspend-engine.result in
     let mark = g.T.End.mark in
     let m = g.T.End.stands c.args.end in
-    let parts : standing-of e n ≡ m = ap (λ s. standing-of s n) c.suspend-engine.ensures ∙ c.into-parts-number.ensures in
+    let parts : standing-of e n ≡ m = ap (λ s. standing-of s n) c.suspend-engine.ensures ∙ c.into_parts-number.ensures in
     let made =
-    ap₂ (put_mid 34 4) c.store.ensures.memory (c.copy-from-slice.ensures.after ∙ c.to-le-bytes.ensures)
-    ∙ (with_number_put c.first-byte.result e c.args.memory.now (word_bytes n) c.requires ∙ ap₂ kept_end c.first-byte.ensures parts) in
+    ap₂ (put_mid 34 4) c.store.ensures.memory (c.copy_from_slice.ensures.after ∙ c.to_le_bytes.ensures)
+    ∙ (with_number_put c.first_byte.result e c.args.memory.now (word_bytes n) c.requires ∙ ap₂ kept_end c.first_byte.ensures parts) in
     record {
       memory = made;
-      back = ap (end_in mark) made ∙ end_found mark m (subst (λ (x : Standing). state-of-bytes (bytes-of-state x.state) ≡ x.state) parts c.store.ensures.back) (g.met.T.End.within c.args.end);
+      back = ap (end_in mark) made ∙ end_found mark m (subst (λ (x : Standing). state-of-bytes (bytes_of-state x.state) ≡ x.state) parts c.store.ensures.back) (g.met.T.End.within c.args.end);
     }

@@ -4,19 +4,19 @@ use Rattle.digests.specs.Digests.{absorbed_by}
 use Rattle.digests.proofs.EntryLaws.{all_inside, absorb_turn, absorb_end}
 use Rattle.digests.proofs.lists.absorb_entries.Goals as goal
 
-pub overflow-add-entry : goal.overflow-add-entry
-overflow-add-entry g c =
+pub overflow_add-entry : goal.overflow_add-entry
+overflow_add-entry g c =
     let inside = all_inside c.args.entries.now 0 (length c.args.buffer.now) c.requires c.each.entry-index c.each-test.true in
     search rules
 
-pub slice-bounds-absorb-string-end : goal.slice-bounds-absorb-string-end
-slice-bounds-absorb-string-end g c =
+pub slice_bounds-absorb_string-end : goal.slice_bounds-absorb_string-end
+slice_bounds-absorb_string-end g c =
     let inside = all_inside c.args.entries.now 0 (length c.args.buffer.now) c.requires c.each.entry-index c.each-test.true in
     search rules
 
 pub each-preserved : goal.each-preserved
 each-preserved g c =
-    absorb_turn (absorbed_by c.args.keyed) _ _ c.args.buffer.now c.args.entries.now c.each.entry-index c.each-test.true c.absorb-string.ensures
+    absorb_turn (absorbed_by c.args.keyed) _ _ c.args.buffer.now c.args.entries.now c.each.entry-index c.each-test.true c.absorb_string.ensures
     ∙ c.each.invariant
 
 pub returns : goal.returns

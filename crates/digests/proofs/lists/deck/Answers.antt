@@ -10,8 +10,8 @@ pub returns : goal.returns
 unfolding decked
 returns g c =
     let strings = cuts c.args.buffer.now c.args.entries.now in
-    let keyed = c.absorb-string.ensures ∙ ap (λ s. absorbed s c.args.key.now) c.new-duplex.ensures in
+    let keyed = c.absorb_string.ensures ∙ ap (λ s. absorbed s c.args.key.now) c.new-duplex.ensures in
     record {
-      answer = ap (answered Deck) c.in-default.ensures;
-      bytes = c.give.ensures ∙ ap (λ s. squeezed (blanked s 8) (length c.args.out.now)) (c.absorb-entries.ensures ∙ ap (λ s. absorbed_all absorbed s strings) keyed);
+      answer = ap (answered Deck) c.in_default.ensures;
+      bytes = c.give.ensures ∙ ap (λ s. squeezed (blanked s 8) (length c.args.out.now)) (c.absorb_entries.ensures ∙ ap (λ s. absorbed_all absorbed s strings) keyed);
     }

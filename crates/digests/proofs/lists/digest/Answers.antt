@@ -11,7 +11,7 @@ unfolding digested
 returns g c =
     let strings = cuts c.args.buffer.now c.args.entries.now in
     record {
-      answer = ap (answered Digest) c.in-default.ensures;
+      answer = ap (answered Digest) c.in_default.ensures;
       bytes = c.give.ensures
-          ∙ ap (λ s. squeezed (blanked s 8) (length c.args.out.now)) (c.absorb-entries.ensures ∙ ap (λ s. absorbed_all absorbed_unkeyed s strings) c.new-duplex.ensures);
+          ∙ ap (λ s. squeezed (blanked s 8) (length c.args.out.now)) (c.absorb_entries.ensures ∙ ap (λ s. absorbed_all absorbed_unkeyed s strings) c.new-duplex.ensures);
     }

@@ -19,7 +19,7 @@ loop-call-preserved g c =
           ∙ c.loop-call.invariant
       | in-End w ↦
           end_call _ _ c.loop-call.rest.now _ c.loop-call.feeding.begun _ calls i h w.in-End.is
-          (ap (λ f. g.E.Engine.bits f.duplex.engine) w.feeding-is ∙ w.end-string.ensures.moved) (ap (λ f. f.begun) w.feeding-is ∙ w.end-string.ensures.begun) (ap (λ r. r.now) w.rest-is)
+          (ap (λ f. g.E.Engine.bits f.duplex.engine) w.feeding-is ∙ w.end_string.ensures.moved) (ap (λ f. f.begun) w.feeding-is ∙ w.end_string.ensures.begun) (ap (λ r. r.now) w.rest-is)
           ∙ c.loop-call.invariant
     ]
 

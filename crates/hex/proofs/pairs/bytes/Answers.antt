@@ -6,7 +6,7 @@ use Rattle.hex.proofs.pairs.bytes.Goals as goal
 
 pub returns : goal.returns
 returns c =
-    let room = c.as-mut-slice.ensures.len in
+    let room = c.as_mut_slice.ensures.len in
     take_at c.decode.new.out _ _ (c.decode.auto.out ∙ room)
     ∙ c.decode.ensures
-    ∙ laid_whole _ _ (length-unhex c.args.digits.now ∙ sym (room ∙ c.in-ok-bytes.ensures.len))
+    ∙ laid_whole _ _ (length-unhex c.args.digits.now ∙ sym (room ∙ c.in_ok-bytes.ensures.len))

@@ -6,8 +6,8 @@ use Rattle.hex.proofs.pairs.decode.Goals as goal
 
 pub loop-i-preserved : goal.loop-i-preserved
 loop-i-preserved c =
-    let high = c.value-or-zero.ensures.value in
-    let low = c.value-or-zero-in-loop-i.ensures.value in
+    let high = c.value_or_zero.ensures.value in
+    let low = c.value_or_zero-in-loop-i.ensures.value in
     let fits = c.min-n.ensures in
     laid_more c.args.digits.now c.loop-i.out c.loop-i.i _ (omega arith) (omega arith) (cc) ∙ c.loop-i.invariant
 

@@ -7,8 +7,8 @@ use Rattle.link.proofs.receiving.check.Goals as goal
 pub returns-then-number-ge-LARGEST : goal.returns-then-number-ge-LARGEST
 returns-then-number-ge-LARGEST c = seen_is _ _ _ (Seen.spent c.if-number-ge-LARGEST.true)
 
-pub returns-then-is-empty : goal.returns-then-is-empty
-returns-then-is-empty c =
+pub returns-then-is_empty : goal.returns-then-is_empty
+returns-then-is_empty c =
     let z : length c.args.frame.now ≡ 0 = omega (arith, tests) in
     seen_is _ _ _ (Seen.empty c.if-number-ge-LARGEST.false z)
 

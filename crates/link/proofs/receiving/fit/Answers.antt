@@ -7,31 +7,31 @@ use Rattle.link.specs.Frames.{overhead, number_in}
 use Rattle.link.proofs.Takings.{Fit, fit_is, number_bytes}
 use Rattle.link.proofs.receiving.fit.Goals as goal
 
-pub returns-in-default : goal.returns-in-default
-returns-in-default c =
+pub returns-in_default : goal.returns-in_default
+returns-in_default c =
     let l : length c.args.frame.now ≡ text_length c.args.kind + overhead → ⊥ = λ e. omega (arith, tests) in
     fit_is _ _ _ _ (Fit.long l)
 
-pub returns-then-rest-text-len : goal.returns-then-rest-text-len
-returns-then-rest-text-len c =
+pub returns-then-rest-text_len : goal.returns-then-rest-text_len
+returns-then-rest-text_len c =
     let l : length c.args.frame.now ≡ text_length c.args.kind + overhead → ⊥ = λ e. omega (arith, tests) in
     fit_is _ _ _ _ (Fit.long l)
 
-pub returns-then-room-text-len : goal.returns-then-room-text-len
-returns-then-room-text-len c =
+pub returns-then-room-text_len : goal.returns-then-room-text_len
+returns-then-room-text_len c =
     let l : length c.args.frame.now ≡ text_length c.args.kind + overhead = omega (arith, tests) in
     fit_is _ _ _ _ (Fit.short l (omega arith))
 
-pub returns-then-same-bytes : goal.returns-then-same-bytes
-returns-then-same-bytes c =
+pub returns-then-same_bytes : goal.returns-then-same_bytes
+returns-then-same_bytes c =
     let f = c.args.frame.now in
     let l : length f ≡ text_length c.args.kind + overhead = omega (arith, tests) in
-    let b = ap₂ bytes_eq (number_bytes f (omega arith)) (sym c.to-le-bytes.ensures) ∙ (sym c.same-bytes.ensures ∙ c.if-same-bytes.true) in
+    let b = ap₂ bytes_eq (number_bytes f (omega arith)) (sym c.to_le_bytes.ensures) ∙ (sym c.same_bytes.ensures ∙ c.if-same_bytes.true) in
     fit_is _ _ _ _ (Fit.passed l (omega arith) b)
 
-pub returns-else-same-bytes : goal.returns-else-same-bytes
-returns-else-same-bytes c =
+pub returns-else-same_bytes : goal.returns-else-same_bytes
+returns-else-same_bytes c =
     let f = c.args.frame.now in
     let l : length f ≡ text_length c.args.kind + overhead = omega (arith, tests) in
-    let b = ap₂ bytes_eq (number_bytes f (omega arith)) (sym c.to-le-bytes.ensures) ∙ (sym c.same-bytes.ensures ∙ c.if-same-bytes.false) in
+    let b = ap₂ bytes_eq (number_bytes f (omega arith)) (sym c.to_le_bytes.ensures) ∙ (sym c.same_bytes.ensures ∙ c.if-same_bytes.false) in
     fit_is _ _ _ _ (Fit.other l (omega arith) b)

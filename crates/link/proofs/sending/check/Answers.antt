@@ -8,18 +8,18 @@ use Rattle.link.proofs.sending.check.Goals as goal
 pub returns-then-number-ge-LARGEST : goal.returns-then-number-ge-LARGEST
 returns-then-number-ge-LARGEST c = vetted_is _ _ _ _ _ (Vetted.spent c.if-number-ge-LARGEST.true)
 
-pub returns-in-default : goal.returns-in-default
-returns-in-default c = let e : kind_of c.args.kind ≡ None = cc in vetted_is _ _ _ _ _ (Vetted.unknown c.if-number-ge-LARGEST.false e)
+pub returns-in_default : goal.returns-in_default
+returns-in_default c = let e : kind_of c.args.kind ≡ None = cc in vetted_is _ _ _ _ _ (Vetted.unknown c.if-number-ge-LARGEST.false e)
 
-pub returns-then-text-text-len : goal.returns-then-text-text-len
-returns-then-text-text-len c =
+pub returns-then-text-text_len : goal.returns-then-text-text_len
+returns-then-text-text_len c =
     let k = c.in-Some.known in
     let e : kind_of c.args.kind ≡ Some k = cc in
     let l : length c.args.text.now ≡ text_length k → ⊥ = λ e. omega arith in
     vetted_is _ _ _ _ _ (Vetted.long k c.if-number-ge-LARGEST.false e l)
 
-pub returns-then-room-text-len : goal.returns-then-room-text-len
-returns-then-room-text-len c =
+pub returns-then-room-text_len : goal.returns-then-room-text_len
+returns-then-room-text_len c =
     let k = c.in-Some.known in
     let e : kind_of c.args.kind ≡ Some k = cc in
     let l : length c.args.text.now ≡ text_length k = omega arith in

@@ -12,12 +12,12 @@ returns g c =
     let t = c.args.text.now in
     let out = c.args.out.now in
     let n = length t in
-    let front : c.copy-from-slice.new.self ≡ ad = c.copy-from-slice.ensures.after in
-    let part = take (5 + n - 5) (drop 5 (c.copy-from-slice.new.self ++ drop 5 out)) in
-    let size : length part ≡ n = length_part out c.copy-from-slice.new.self n (ap length front ∙ c.told-ad) c.requires in
+    let front : c.copy_from_slice.new.self ≡ ad = c.copy_from_slice.ensures.after in
+    let part = take (5 + n - 5) (drop 5 (c.copy_from_slice.new.self ++ drop 5 out)) in
+    let size : length part ≡ n = length_part out c.copy_from_slice.new.self n (ap length front ∙ c.told-ad) c.requires in
     let e = sealed s ad t part c.seal-sealed.result size c.seal-sealed.ensures.value in
     record {
       value = e.value;
       moved = c.seal-sealed.ensures.moved ∙ e.moved;
-      out = laid out _ _ _ ad (cipher s ad t) (tag_of s ad t) n front (c.seal-sealed.ensures.out ∙ e.out) (c.copy-from-slice-2.ensures.after ∙ (c.seal-sealed.ensures.tag ∙ e.tag _)) c.told-ad (length-cipher s ad t) c.requires;
+      out = laid out _ _ _ ad (cipher s ad t) (tag_of s ad t) n front (c.seal-sealed.ensures.out ∙ e.out) (c.copy_from_slice-2.ensures.after ∙ (c.seal-sealed.ensures.tag ∙ e.tag _)) c.told-ad (length-cipher s ad t) c.requires;
     }

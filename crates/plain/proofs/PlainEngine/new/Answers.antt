@@ -2,5 +2,5 @@
 use Rattle.duplex.proofs.StateLaws.{zeros-state}
 use Rattle.plain.proofs.PlainEngine.new.Goals as goal
 
-pub invariant-of-result : goal.invariant-of-result
-invariant-of-result c = (zeros-state.width, (zeros-state.bits, tt))
+pub invariant_of-result : goal.invariant_of-result
+invariant_of-result c = (zeros-state.width, (zeros-state.bits, tt))

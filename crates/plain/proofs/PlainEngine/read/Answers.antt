@@ -13,8 +13,8 @@ binary e p q = xor_lt 1 (get_or e.cells p 0) (get_or e.cells q 0) (e.binary p) (
 fits : (e : Plain) (p q : ℕ) → Fits w32 (get_or e.cells p 0 ⊕ get_or e.cells q 0)
 fits e p q = record { fits = omega (arith, binary e p q) }
 
-pub overflow-cast-out : goal.overflow-cast-out
-overflow-cast-out c = fits c.args.self.now _ _
+pub overflow_cast-out : goal.overflow_cast-out
+overflow_cast-out c = fits c.args.self.now _ _
 
 pub loop-j-preserved : goal.loop-j-preserved
 loop-j-preserved c =

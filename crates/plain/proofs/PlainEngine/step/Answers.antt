@@ -13,9 +13,9 @@ kept : (e : Plain) (t u : List ℕ) (x : ℕ) → t ≡ round e.cells → u ≡ 
 kept e t u x p q =
     subst IsState (sym (stepped e.cells t u x p q)) (step-state e.cells x (record { width = e.width; bits = e.binary }))
 
-pub invariant-of-self : goal.invariant-of-self
-invariant-of-self c =
-    let w = kept c.args.self.now _ _ _ c.rounded-cells.ensures c.add-block.ensures in
+pub invariant_of-self : goal.invariant_of-self
+invariant_of-self c =
+    let w = kept c.args.self.now _ _ _ c.rounded-cells.ensures c.add_block.ensures in
     search rules
 
 pub returns : goal.returns

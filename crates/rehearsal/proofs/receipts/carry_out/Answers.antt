@@ -36,16 +36,16 @@ returns-in-Ok g c =
     let m = sending g.E.Engine.bits c.args.end.now in
     let e = c.in-Ok.ensures in
     let x = c.args.x.now in
-    let whole = with_items_is x.buffer c.write.new.out (c.write.auto.out ∙ c.as-mut-slice.ensures.len) in
-    one_written m _ x _ c.in-Write.kind c.in-Write.text c.as-slice.result.now c.as-mut-slice.result.now (Ok (c.in-Ok.size, c.in-Ok.number)) c.in-Write.is refl c.as-slice.ensures.value c.as-mut-slice.ensures.value e.value refl (whole ∙ e.out) e.moved
+    let whole = with_items_is x.buffer c.write.new.out (c.write.auto.out ∙ c.as_mut_slice.ensures.len) in
+    one_written m _ x _ c.in-Write.kind c.in-Write.text c.as_slice.result.now c.as_mut_slice.result.now (Ok (c.in-Ok.size, c.in-Ok.number)) c.in-Write.is refl c.as_slice.ensures.value c.as_mut_slice.ensures.value e.value refl (whole ∙ e.out) e.moved
 
 pub returns-in-Err : goal.returns-in-Err
 returns-in-Err g c =
     let m = sending g.E.Engine.bits c.args.end.now in
     let e = c.in-Err.ensures in
     let x = c.args.x.now in
-    let whole = with_items_is x.buffer c.write.new.out (c.write.auto.out ∙ c.as-mut-slice.ensures.len) in
-    one_written m _ x _ c.in-Write.kind c.in-Write.text c.as-slice.result.now c.as-mut-slice.result.now (Err c.in-Err.fault) c.in-Write.is refl c.as-slice.ensures.value c.as-mut-slice.ensures.value e.value refl (whole ∙ e.out) e.moved
+    let whole = with_items_is x.buffer c.write.new.out (c.write.auto.out ∙ c.as_mut_slice.ensures.len) in
+    one_written m _ x _ c.in-Write.kind c.in-Write.text c.as_slice.result.now c.as_mut_slice.result.now (Err c.in-Err.fault) c.in-Write.is refl c.as_slice.ensures.value c.as_mut_slice.ensures.value e.value refl (whole ∙ e.out) e.moved
 
 pub returns-in-Tell : goal.returns-in-Tell
 returns-in-Tell g c =

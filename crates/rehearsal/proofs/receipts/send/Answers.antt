@@ -11,7 +11,7 @@ loop-i-init g c = going_starts OneWriting _ _ c.args.orders.now c.begin-end.ensu
 
 pub loop-i-preserved : goal.loop-i-preserved
 loop-i-preserved g c =
-    going_on OneWriting (started c.args.key.now.bytes c.args.nonce.now.bytes) _ _ c.args.orders.now c.loop-i.orders c.loop-i.i _ _ (omega arith) c.carry-out.ensures c.loop-i.invariant
+    going_on OneWriting (started c.args.key.now.bytes c.args.nonce.now.bytes) _ _ c.args.orders.now c.loop-i.orders c.loop-i.i _ _ (omega arith) c.carry_out.ensures c.loop-i.invariant
 
 pub returns : goal.returns
 returns g c =

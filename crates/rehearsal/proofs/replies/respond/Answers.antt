@@ -36,16 +36,16 @@ returns-in-Ok g c =
     let m = receiving g.E.Engine.bits c.args.end.now in
     let e = c.in-Ok.ensures in
     let x = c.args.x.now in
-    let whole = with_items_is x.buffer c.take.new.text (c.take.auto.text ∙ c.as-mut-slice.ensures.len) in
-    one_taken m _ x _ c.in-Take.frame c.as-slice.result.now c.as-mut-slice.result.now (Ok c.in-Ok.kind) c.in-Take.is refl c.as-slice.ensures.value c.as-mut-slice.ensures.value e.value refl (whole ∙ e.text) e.moved
+    let whole = with_items_is x.buffer c.take.new.text (c.take.auto.text ∙ c.as_mut_slice.ensures.len) in
+    one_taken m _ x _ c.in-Take.frame c.as_slice.result.now c.as_mut_slice.result.now (Ok c.in-Ok.kind) c.in-Take.is refl c.as_slice.ensures.value c.as_mut_slice.ensures.value e.value refl (whole ∙ e.text) e.moved
 
 pub returns-in-Err : goal.returns-in-Err
 returns-in-Err g c =
     let m = receiving g.E.Engine.bits c.args.end.now in
     let e = c.in-Err.ensures in
     let x = c.args.x.now in
-    let whole = with_items_is x.buffer c.take.new.text (c.take.auto.text ∙ c.as-mut-slice.ensures.len) in
-    one_taken m _ x _ c.in-Take.frame c.as-slice.result.now c.as-mut-slice.result.now (Err c.in-Err.fault) c.in-Take.is refl c.as-slice.ensures.value c.as-mut-slice.ensures.value e.value refl (whole ∙ e.text) e.moved
+    let whole = with_items_is x.buffer c.take.new.text (c.take.auto.text ∙ c.as_mut_slice.ensures.len) in
+    one_taken m _ x _ c.in-Take.frame c.as_slice.result.now c.as_mut_slice.result.now (Err c.in-Err.fault) c.in-Take.is refl c.as_slice.ensures.value c.as_mut_slice.ensures.value e.value refl (whole ∙ e.text) e.moved
 
 pub returns-in-Tell : goal.returns-in-Tell
 returns-in-Tell g c =

@@ -6,8 +6,8 @@ use Rattle.seal.proofs.hex.bytes.Goals as goal
 
 pub returns : goal.returns
 returns c =
-    let word = c.as-bytes-digits.ensures.value in
+    let word = c.as_bytes-digits.ensures.value in
     record {
-      sound = sym (ap hex_fault word) ∙ sym c.in-default.ensures;
-      written = take_at c.decode.new.out _ _ (c.decode.auto.out ∙ c.as-mut-slice.ensures.len) ∙ (c.decode.ensures ∙ ap unhex word);
+      sound = sym (ap hex_fault word) ∙ sym c.in_default.ensures;
+      written = take_at c.decode.new.out _ _ (c.decode.auto.out ∙ c.as_mut_slice.ensures.len) ∙ (c.decode.ensures ∙ ap unhex word);
     }

@@ -14,26 +14,26 @@ returns c =
     let file = c.args.sealed.now in
     let n = length file - 16 in
     let out = c.open.new.out in
-    let len = c.in-ok-text.text.len in
-    let rest = drop (length out) c.in-ok-text.text.items in
-    let m = c.in-ok-open.field-0 in
-    let only = c.open.ensures.only m c.in-ok-open.was in
-    let whole = (open_accepted _ _ (take (n - 0) file) _ _ m (sym c.in-ok-open.ensures.value)).0 in
-    let long : length out ≡ len = c.open.auto.out ∙ c.as-mut-slice.ensures.len in
-    let made = c.in-ok-text.ensures.len in
+    let len = c.in_ok-text.text.len in
+    let rest = drop (length out) c.in_ok-text.text.items in
+    let m = c.in_ok-open.field-0 in
+    let only = c.open.ensures.only m c.in_ok-open.was in
+    let whole = (open_accepted _ _ (take (n - 0) file) _ _ m (sym c.in_ok-open.ensures.value)).0 in
+    let long : length out ≡ len = c.open.auto.out ∙ c.as_mut_slice.ensures.len in
+    let made = c.in_ok-text.ensures.len in
     let fits : length out ≤ m = omega (arith, length-take (n - 0) file) in
-    sealed_again _ _ file _ _ out rest _ n m len (ap (λ k. take k file) (sub-zero n)) (c.copy-from-slice.ensures.after ∙ take_rest file n) only fits long
-    ∙ ap₂ (λ s ad. sealed_bytes s ad (take len (out ++ rest))) c.begin-session.ensures c.as-slice.ensures.value
+    sealed_again _ _ file _ _ out rest _ n m len (ap (λ k. take k file) (sub-zero n)) (c.copy_from_slice.ensures.after ∙ take_rest file n) only fits long
+    ∙ ap₂ (λ s ad. sealed_bytes s ad (take len (out ++ rest))) c.begin-session.ensures c.as_slice.ensures.value
 
-pub returns-in-err-open : goal.returns-in-err-open
-returns-in-err-open c =
+pub returns-in_err-open : goal.returns-in_err-open
+returns-in_err-open c =
     let file = c.args.sealed.now in
     let n = length file - 16 in
     let front : take (n - 0) file ≡ take n file = ap (λ k. take k file) (sub-zero n) in
-    let back = c.copy-from-slice.ensures.after ∙ take_rest file n in
-    let room = c.as-mut-slice.ensures.len ∙ c.in-ok-text.ensures.len in
+    let back = c.copy_from_slice.ensures.after ∙ take_rest file n in
+    let room = c.as_mut_slice.ensures.len ∙ c.in_ok-text.ensures.len in
     let value =
-    c.in-err-open.ensures.value
-    ∙ ap₂ (λ s ad. open_answer s ad (take (n - 0) file) c.copy-from-slice.new.self (length c.as-mut-slice.result.now)) c.begin-session.ensures c.as-slice.ensures.value in
+    c.in_err-open.ensures.value
+    ∙ ap₂ (λ s ad. open_answer s ad (take (n - 0) file) c.copy_from_slice.new.self (length c.as_mut_slice.result.now)) c.begin-session.ensures c.as_slice.ensures.value in
     let p = err_from_is_err_and c.from-residual-in-err-open.result c.from-residual-in-err-open.ensures.1 in
     rw (p.1, p.2) (not_opened _ _ file _ _ _ _ c.if-sealed-lt16.false front back room value)

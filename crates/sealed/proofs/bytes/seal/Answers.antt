@@ -6,16 +6,16 @@ use Rattle.sealed.proofs.bytes.seal.Goals as goal
 
 pub returns : goal.returns
 returns c =
-    let value = c.in-ok-seal.ensures.value in
-    let length-is = c.in-ok-sealed.ensures.len in
-    c.in-ok-extend-from-slice.ensures.items
+    let value = c.in_ok-seal.ensures.value in
+    let length-is = c.in_ok-sealed.ensures.len in
+    c.in_ok-extend_from_slice.ensures.items
     ∙ (ap₂ (λ x y. x ++ y)
-    (sealed_front _ _ _ _ _ _ _ _ length-is c.as-mut-slice.ensures.len value c.in-ok-seal.ensures.out)
-    c.in-ok-seal.ensures.tag
-    ∙ ap₂ (λ s ad. sealed_bytes s ad c.args.text.now) c.begin-session.ensures c.as-slice.ensures.value)
+    (sealed_front _ _ _ _ _ _ _ _ length-is c.as_mut_slice.ensures.len value c.in_ok-seal.ensures.out)
+    c.in_ok-seal.ensures.tag
+    ∙ ap₂ (λ s ad. sealed_bytes s ad c.args.text.now) c.begin-session.ensures c.as_slice.ensures.value)
 
-pub returns-in-err-seal : goal.returns-in-err-seal
-returns-in-err-seal c =
-    let length-is = c.in-ok-sealed.ensures.len in
-    let room = c.as-mut-slice.ensures.len in
-    absurd (never_short c.args.text.now _ _ (omega arith) c.in-err-seal.ensures.value)
+pub returns-in_err-seal : goal.returns-in_err-seal
+returns-in_err-seal c =
+    let length-is = c.in_ok-sealed.ensures.len in
+    let room = c.as_mut_slice.ensures.len in
+    absurd (never_short c.args.text.now _ _ (omega arith) c.in_err-seal.ensures.value)

@@ -4,5 +4,5 @@ use Rattle.hex.specs.declared.digits.Letters.TheVariants.{Either}
 use Rattle.hex.proofs.HexLaws.{bad_within}
 use Rattle.sealed.proofs.words.spoils.Goals as goal
 
-pub overflow-add-column : goal.overflow-add-column
-overflow-add-column c = omega (arith, bad_within Either c.args.digits.now c.in-ok-place.place c.in-ok-place.ensures)
+pub overflow_add-column : goal.overflow_add-column
+overflow_add-column c = omega (arith, bad_within Either c.args.digits.now c.in_ok-place.place c.in_ok-place.ensures)

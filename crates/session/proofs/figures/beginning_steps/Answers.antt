@@ -20,6 +20,6 @@ returns c =
     record {
       begins = begins;
       eighteen = λ key nonce h k.
-          let five = c.step-counts.ensures.keyed_16 in
+          let five = c.step_counts.ensures.keyed_16 in
           omega (arith, length-append (blocks key) (blocks nonce ++ replicate 8 []), length-append (blocks nonce) (replicate 8 []), five key h, five nonce k);
     }

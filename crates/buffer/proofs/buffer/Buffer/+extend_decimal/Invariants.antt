@@ -1,5 +1,5 @@
 -- The number falls.
 use Rattle.buffer.proofs.buffer.Buffer.+extend_decimal.Given as goal
 
-abbrev pub decreases-extend-decimal : goal.decreases-extend-decimal
-decreases-extend-decimal l = l.n
+abbrev pub decreases-extend_decimal : goal.decreases-extend_decimal
+decreases-extend_decimal l = l.n

@@ -12,8 +12,8 @@ loop-b-preserved c =
     let h = held c.loop-b.self in
     let rest = hex (drop (i + 1) xs) in
     let b = get_or xs i 0 in
-    let high : c.hex_digit.result ≡ hex_digit (b / 16) = c.hex_digit.ensures ∙ ap hex_digit (omega (arith, (c.type-inv.bytes i).fits)) in
-    two_more h (held c.push.new.self) (held c.push-in-loop-b.new.self) rest _ _ _ _ high c.hex-digit-in-loop-b.ensures c.push.ensures c.push-in-loop-b.ensures
+    let high : c.hex_digit.result ≡ hex_digit (b / 16) = c.hex_digit.ensures ∙ ap hex_digit (omega (arith, (c.type_inv.bytes i).fits)) in
+    two_more h (held c.push.new.self) (held c.push-in-loop-b.new.self) rest _ _ _ _ high c.hex_digit-in-loop-b.ensures c.push.ensures c.push-in-loop-b.ensures
     ∙ sym (at_drop_more (λ bs. kept h (hex bs)) xs i 0 c.loop-b-test.true)
     ∙ c.loop-b.invariant
 

@@ -6,4 +6,4 @@ use Rattle.digests.proofs.feeding.Feeding.finish.Goals as goal
 
 pub returns : goal.returns
 unfolding finished
-returns g c = c.blank.ensures ∙ ap (λ s. blanked s 8) c.end-begun.ensures
+returns g c = c.blank.ensures ∙ ap (λ s. blanked s 8) c.end_begun.ensures

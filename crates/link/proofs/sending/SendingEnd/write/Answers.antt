@@ -9,15 +9,15 @@ use Rattle.link.specs.Calls.{sending, vetted, wrote_pair, wrote_standing, wrote_
 use Rattle.link.proofs.Writings.{readied}
 use Rattle.link.proofs.sending.SendingEnd.write.Goals as goal
 
-pub slice-bounds-lay-end : goal.slice-bounds-lay-end
-slice-bounds-lay-end g c =
-    let r = readied _ _ _ _ _ c.in-ok-known.ensures in
+pub slice_bounds-lay-end : goal.slice_bounds-lay-end
+slice_bounds-lay-end g c =
+    let r = readied _ _ _ _ _ c.in_ok-known.ensures in
     let roomy = r.roomy in
     let size = r.size in
     omega arith
 
-pub invariant-of-self : goal.invariant-of-self
-invariant-of-self g c = let n = (readied _ _ _ _ _ c.in-ok-known.ensures).below in (omega arith, tt)
+pub invariant_of-self : goal.invariant_of-self
+invariant_of-self g c = let n = (readied _ _ _ _ _ c.in_ok-known.ensures).below in (omega arith, tt)
 
 pub returns : goal.returns
 unfolding next_of frame_of
@@ -25,8 +25,8 @@ returns g c =
     let m = sending g.E.Engine.bits c.args.self.now in
     let t = c.args.text.now in
     let old = c.args.out.now in
-    let k = c.in-ok-known.known in
-    let v : Ok k ≡ vetted m.number c.args.kind t (length old) = c.in-ok-known.ensures in
+    let k = c.in_ok-known.known in
+    let v : Ok k ≡ vetted m.number c.args.kind t (length old) = c.in_ok-known.ensures in
     let ad : c.header-ad.result ≡ associated (kind_byte k) m.number = c.header-ad.ensures in
     let size : length t + overhead ≡ text_length k + overhead = ap (λ n. n + overhead) (readied _ _ _ _ _ v).size in
     let moved = c.lay.ensures.moved ∙ ap (λ h. after m.state h t) ad in

@@ -22,5 +22,5 @@ pub returns-in-Ok : goal.returns-in-Ok
 returns-in-Ok g c =
     (c.write.ensures.moved, refl, took _ _ _ _ _ _ _ _ _ _ (sym c.write.ensures.value ∙ c.in-Ok.is) c.write.ensures.out c.take.ensures.value c.take.ensures.moved c.take.ensures.text)
 
-pub returns-in-default : goal.returns-in-default
-returns-in-default g c = (c.write.ensures.moved, refl, kept _ _ _ _ _ (sym c.write.ensures.value ∙ c.in-default.is))
+pub returns-in_default : goal.returns-in_default
+returns-in_default g c = (c.write.ensures.moved, refl, kept _ _ _ _ _ (sym c.write.ensures.value ∙ c.in_default.is))

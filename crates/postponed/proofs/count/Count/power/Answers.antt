@@ -3,8 +3,8 @@ use Rattle.std.proofs.Common.{◌<◌, get_or, sym, ap, ◌∙◌, subst, arith}
 use Rattle.postponed.proofs.PowerLaws.{getD_powers}
 use Rattle.postponed.proofs.count.Count.power.Goals as goal
 
-pub invariant-of-result : goal.invariant-of-result
-invariant-of-result c =
+pub invariant_of-result : goal.invariant_of-result
+invariant_of-result c =
     let n = c.args.self.value in
     let is = c.from.ensures ∙ (ap (λ t. get_or t n 0) c.powers.ensures.value ∙ getD_powers n c.args.self.low) in
     (subst (λ x. x < 257) (sym is) (omega arith), tt)

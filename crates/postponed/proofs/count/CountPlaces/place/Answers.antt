@@ -7,8 +7,8 @@ use Rattle.words.specs.ModLaws.{cut_left}
 use Rattle.postponed.proofs.PowerLaws.{place_power, power_positive}
 use Rattle.postponed.proofs.count.CountPlaces.place.Goals as goal
 
-pub invariant-of-position : goal.invariant-of-position
-invariant-of-position c =
+pub invariant_of-position : goal.invariant_of-position
+invariant_of-position c =
     let j = c.args.lane.number in
     let table = ap (λ t. get_or t j 0) c.positions.ensures ∙ getD_positions j c.args.lane.low in
     (subst (λ p. p < 257) (sym table) (position_range j c.args.lane.low).1, tt)

@@ -5,4 +5,4 @@ use Rattle.postponed.specs.StretchLaws.{reading-stretch}
 use Rattle.postponed.proofs.engine.PostponedEngine.read.Goals as goal
 
 pub returns : goal.returns
-returns c = let e = c.args.self.now in c.read-by.ensures ∙ sym (reading-stretch (12 ^ e.count.value) (cells e.words.array))
+returns c = let e = c.args.self.now in c.read_by.ensures ∙ sym (reading-stretch (12 ^ e.count.value) (cells e.words.array))

@@ -18,11 +18,11 @@ returns g c =
     let given = c.args.ciphertext.now in
     let old = c.args.out.now in
     let accepted = opens s ad given c.args.tag.now.bytes in
-    let verdict = c.open-whole.ensures.value in
+    let verdict = c.open_whole.ensures.value in
     let value = verdict ∙ sym (open_fits s ad given _ (length old) c.if-out-ciphertext.false) in
-    let moved = c.open-whole.ensures.moved ∙ sym (ap (open_bits s ad given) verdict ∙ verdict-bits s ad given accepted) in
+    let moved = c.open_whole.ensures.moved ∙ sym (ap (open_bits s ad given) verdict ∙ verdict-bits s ad given accepted) in
     let out =
-    ap₂ (λ x n. x ++ drop n old) c.open-whole.ensures.text (sub-zero (length given))
+    ap₂ (λ x n. x ++ drop n old) c.open_whole.ensures.text (sub-zero (length given))
     ∙ sym (ap (open_out s ad given old) verdict ∙ verdict_out s ad given old accepted) in
     record {
       value = value;

@@ -11,7 +11,7 @@ pub returns : goal.returns
 returns g c =
     record {
       value = sym (seal_fits _ _ c.if-out-text.false);
-      moved = c.seal-whole.ensures.moved;
-      out = ap₂ (λ x n. x ++ drop n c.args.out.now) c.seal-whole.ensures.out (sub-zero (length c.args.text.now));
-      tag = c.seal-whole.ensures.value;
+      moved = c.seal_whole.ensures.moved;
+      out = ap₂ (λ x n. x ++ drop n c.args.out.now) c.seal_whole.ensures.out (sub-zero (length c.args.text.now));
+      tag = c.seal_whole.ensures.value;
     }

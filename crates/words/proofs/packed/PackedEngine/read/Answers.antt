@@ -5,4 +5,4 @@ use Rattle.words.proofs.FactorLaws.{reading_one}
 use Rattle.words.proofs.packed.PackedEngine.read.Goals as goal
 
 pub returns : goal.returns
-returns c = c.read-by.ensures ∙ reading_one (cells c.args.self.now.words.array)
+returns c = c.read_by.ensures ∙ reading_one (cells c.args.self.now.words.array)

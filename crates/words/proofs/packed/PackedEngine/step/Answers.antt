@@ -8,4 +8,4 @@ use Rattle.words.proofs.packed.PackedEngine.step.Goals as goal
 pub returns : goal.returns
 returns c =
     c.inject_by.ensures
-    ∙ step_one (cells c.args.self.now.words.array) _ c.args.block (c.shuffle-words.ensures ∙ ap pi c.round-by.ensures)
+    ∙ step_one (cells c.args.self.now.words.array) _ c.args.block (c.shuffle-words.ensures ∙ ap pi c.round_by.ensures)

@@ -16,8 +16,8 @@ loop-k-preserved c =
           (λ m e. window_bit row (d / 32 + k) (d % 32) (m % 32) _ fits (omega arith) (omega arith) (omega arith)),
     )
 
-pub invariant-of-result : goal.invariant-of-result
-invariant-of-result c = (length-set c.loop-k.array 8 _ ∙ c.loop-k.invariant.0, (mask_spare c.loop-k.array c.loop-k.invariant.0, tt))
+pub invariant_of-result : goal.invariant_of-result
+invariant_of-result c = (length-set c.loop-k.array 8 _ ∙ c.loop-k.invariant.0, (mask_spare c.loop-k.array c.loop-k.invariant.0, tt))
 
 pub returns : goal.returns
 returns c =

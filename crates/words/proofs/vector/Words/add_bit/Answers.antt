@@ -10,8 +10,8 @@ use Rattle.words.proofs.vector.Words.add_bit.Goals as goal
 masked : (ws : List ℕ) (p b : ℕ) → set ws (p / 32) (bit_xor (get_or ws (p / 32) 0) (bit_and b 1 * 2 ^ (p % 32) % 2 ^ 32)) ≡ added ws p (b % 2)
 masked ws p b = ap (λ n. set ws (p / 32) (bit_xor (get_or ws (p / 32) 0) (n * 2 ^ (p % 32) % 2 ^ 32))) (and_mask b 1)
 
-pub invariant-of-self : goal.invariant-of-self
-invariant-of-self c =
+pub invariant_of-self : goal.invariant_of-self
+invariant_of-self c =
     let w = c.args.self.now in
     let p = c.args.p.value in
     let b = c.args.b in (

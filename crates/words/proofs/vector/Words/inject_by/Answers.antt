@@ -20,7 +20,7 @@ loop-j-preserved g c =
     let j = c.loop-j.j in
     let low : bit_and (x / 2 ^ j) 1 % 2 ≡ bit x j = ap (λ n. n % 2) (and_mask (x / 2 ^ j) 1) ∙ omega arith in
     ap (λ t. add_bits p x t (range_with_len (j + 1) (33 - (j + 1))))
-    (c.add-bit.ensures ∙ (ap (λ n. add_at s n (bit_and (x / 2 ^ j) 1 % 2)) c.place-place.ensures.value ∙ ap (add_at s (p j)) low))
+    (c.add_bit.ensures ∙ (ap (λ n. add_at s n (bit_and (x / 2 ^ j) 1 % 2)) c.place-place.ensures.value ∙ ap (add_at s (p j)) low))
     ∙ (sym (add_bits_more p x s j c.loop-j-test.true) ∙ c.loop-j.invariant)
 
 pub returns : goal.returns

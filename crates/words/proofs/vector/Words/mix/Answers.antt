@@ -20,8 +20,8 @@ loop-k-preserved g c =
       mixed_spare w.array x.array y.array t k v c.loop-k-test.true c.loop-k.invariant.0 w.spare x.spare y.spare c.word.ensures.narrow,
     )
 
-pub invariant-of-result : goal.invariant-of-result
-invariant-of-result g c = (c.loop-k.invariant.0, (c.loop-k.invariant.2 (omega arith), tt))
+pub invariant_of-result : goal.invariant_of-result
+invariant_of-result g c = (c.loop-k.invariant.0, (c.loop-k.invariant.2 (omega arith), tt))
 
 pub returns : goal.returns
 returns g c =

@@ -10,16 +10,16 @@ use Rattle.words.proofs.ReadLaws.{read_fits, read_down}
 use Rattle.words.specs.WordLaws.{cells-state}
 use Rattle.words.proofs.vector.Words.read_by.Goals as goal
 
-pub overflow-mul-out : goal.overflow-mul-out
-overflow-mul-out g c = omega (arith, read_fits c.loop-j.j c.loop-j.out 0 c.loop-j-test.true c.loop-j.auto.j (omega arith) c.loop-j.invariant.0)
+pub overflow_mul-out : goal.overflow_mul-out
+overflow_mul-out g c = omega (arith, read_fits c.loop-j.j c.loop-j.out 0 c.loop-j-test.true c.loop-j.auto.j (omega arith) c.loop-j.invariant.0)
 
 -- the bit that is read
 sum_bit : (ws : List ℕ) (p q x y : ℕ) → x ≡ get_or (cells ws) p 0 → y ≡ get_or (cells ws) q 0 → bit_xor x y < 2
 sum_bit ws p q x y ex ey =
     xor_lt 1 x y (subst (λ n. n < 2) (sym ex) ((cells-state ws).bits p)) (subst (λ n. n < 2) (sym ey) ((cells-state ws).bits q))
 
-pub overflow-add-out : goal.overflow-add-out
-overflow-add-out g c =
+pub overflow_add-out : goal.overflow_add-out
+overflow_add-out g c =
     let b = sum_bit c.args.self.now.array _ _ _ _ c.bit.ensures c.bit-in-loop-j.ensures in
     omega (arith, read_fits c.loop-j.j c.loop-j.out _ c.loop-j-test.true c.loop-j.auto.j b c.loop-j.invariant.0)
 

@@ -15,5 +15,5 @@ returns c =
     let k = c.args.c.value in
     let t = c.mix-words.result.array in
     let chi-made = c.mix-words.ensures ∙ mixed-cut chi_rule _ k _ (2 * k) _ (omega arith) (turn _ k 2 c.times.ensures) in
-    let iota-made = c.add-bit.ensures ∙ (iota_add (cells t) (length-cells t) ∙ ap iota chi-made) in
+    let iota-made = c.add_bit.ensures ∙ (iota_add (cells t) (length-cells t) ∙ ap iota chi-made) in
     c.mix.ensures ∙ (mixed-cut theta_rule _ (3 * k) _ (8 * k) _ (turn _ k 3 c.times-2.ensures) (turn _ k 8 c.times-3.ensures) ∙ ap (theta_by k) iota-made)

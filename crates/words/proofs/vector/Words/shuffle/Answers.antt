@@ -22,8 +22,8 @@ loop-i-preserved c =
     let small : i < length t = omega (arith, length-cells c.loop-i.words.array) in
     let read : b ≡ pi_bit s i = c.bit.ensures ∙ ap (λ n. get_or s n 0) c.loop-i.invariant.0 in
     let one : b % 2 ≡ b = omega (arith, c.bit.ensures, (cells-state c.args.self.now.array).bits c.loop-i.from.0) in
-    let made : cells c.add-bit.new.self.array ≡ set t i (pi_bit s i) =
-    c.add-bit.ensures ∙ ap (set t i) (ap (λ n. bit_xor n (b % 2)) (c.loop-i.invariant.2 i (omega arith) (omega arith)) ∙ (xor_zero_l (b % 2) ∙ (one ∙ read))) in (
+    let made : cells c.add_bit.new.self.array ≡ set t i (pi_bit s i) =
+    c.add_bit.ensures ∙ ap (set t i) (ap (λ n. bit_xor n (b % 2)) (c.loop-i.invariant.2 i (omega arith) (omega arith)) ∙ (xor_zero_l (b % 2) ∙ (one ∙ read))) in (
       c.plus-from.ensures ∙ (sum_mod (12 * i) 12 _ 12 c.loop-i.invariant.0 refl ∙ ap (λ n. n % 257) (omega arith)),
       (λ m h. ap (λ u. get_or u m 0) made ∙ fill_by_more (pi_bit s) t i 0 small c.loop-i.invariant.1 m h),
       (λ m l h. ap (λ u. get_or u m 0) made ∙ (get_or-set_other t i m (pi_bit s i) 0 (λ e. omega arith) ∙ c.loop-i.invariant.2 m (omega arith) h)),
