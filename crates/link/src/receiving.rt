@@ -19,7 +19,7 @@ pub struct ReceivingEnd<E> {
 
 impl<E: Engine + Drop> ReceivingEnd<E> {
     pub fn begin(key: &Key, nonce: &Nonce) -> ReceivingEnd<E>
-        ensures { receiving bits result ≡ started key.now.bytes nonce.now.bytes }
+        ensures { receiving E.bits result ≡ started key.now.bytes nonce.now.bytes }
     {
         ReceivingEnd {
             session: Session::begin(key, nonce),
@@ -29,23 +29,23 @@ impl<E: Engine + Drop> ReceivingEnd<E> {
 
     // How many frames were taken.
     pub fn tell(&self) -> u32
-        ensures { result ≡ (receiving bits self.now).number }
+        ensures { result ≡ (receiving E.bits self.now).number }
     {
         self.number.value
     }
 
     // Gives up the end, and tells its number.
     pub fn close(self) -> u32
-        ensures { result ≡ (receiving bits self).number }
+        ensures { result ≡ (receiving E.bits self).number }
     {
         self.tell()
     }
 
     // Takes a frame: its text stands at the front of `text`, and its kind is answered. The frame is opened on a copy of the session, so that a refusal leaves the end as it was.
     pub fn take(&mut self, frame: &[u8], text: &mut [u8]) -> Result<Kind, LinkFault>
-        ensures value { result ≡ take_answer (receiving bits self.old) frame.now (length text.old) }
-        ensures moved { receiving bits self.new ≡ take_standing (receiving bits self.old) frame.now result }
-        ensures text { text.new ≡ take_text (receiving bits self.old) frame.now text.old result }
+        ensures value { result ≡ take_answer (receiving E.bits self.old) frame.now (length text.old) }
+        ensures moved { receiving E.bits self.new ≡ take_standing (receiving E.bits self.old) frame.now result }
+        ensures text { text.new ≡ take_text (receiving E.bits self.old) frame.now text.old result }
     {
         let Number { value: number } = self.number;
         let kind = check(number, frame, text.len())?;

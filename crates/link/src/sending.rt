@@ -20,7 +20,7 @@ pub struct SendingEnd<E> {
 
 impl<E: Engine + Drop> SendingEnd<E> {
     pub fn begin(key: &Key, nonce: &Nonce) -> SendingEnd<E>
-        ensures { sending bits result ≡ started key.now.bytes nonce.now.bytes }
+        ensures { sending E.bits result ≡ started key.now.bytes nonce.now.bytes }
     {
         SendingEnd {
             session: Session::begin(key, nonce),
@@ -30,14 +30,14 @@ impl<E: Engine + Drop> SendingEnd<E> {
 
     // How many frames were written.
     pub fn tell(&self) -> u32
-        ensures { result ≡ (sending bits self.now).number }
+        ensures { result ≡ (sending E.bits self.now).number }
     {
         self.number.value
     }
 
     // Gives up the end, and tells its number.
     pub fn close(self) -> u32
-        ensures { result ≡ (sending bits self).number }
+        ensures { result ≡ (sending E.bits self).number }
     {
         self.tell()
     }
@@ -49,9 +49,9 @@ impl<E: Engine + Drop> SendingEnd<E> {
         text: &[u8],
         out: &mut [u8],
     ) -> Result<(usize, u32), LinkFault>
-        ensures value { result ≡ write_answer (sending bits self.old) kind text.now (length out.old) }
-        ensures moved { sending bits self.new ≡ write_standing (sending bits self.old) kind text.now (length out.old) }
-        ensures out { out.new ≡ write_out (sending bits self.old) kind text.now out.old }
+        ensures value { result ≡ write_answer (sending E.bits self.old) kind text.now (length out.old) }
+        ensures moved { sending E.bits self.new ≡ write_standing (sending E.bits self.old) kind text.now (length out.old) }
+        ensures out { out.new ≡ write_out (sending E.bits self.old) kind text.now out.old }
     {
         let Number { value: number } = self.number;
         let known = check(number, kind, text, out.len())?;
@@ -91,8 +91,8 @@ fn lay<E: Engine>(
 ) -> Result<usize, SessionFault>
     requires { length out.old ≡ length text.now + 21 }
     ensures value { result ≡ Ok (length text.now) }
-    ensures moved { session_bits bits session.new ≡ after (session_bits bits session.old) ad.now text.now }
-    ensures out { out.new ≡ ad.now ++ (cipher (session_bits bits session.old) ad.now text.now ++ tag_of (session_bits bits session.old) ad.now text.now) }
+    ensures moved { session_bits E.bits session.new ≡ after (session_bits E.bits session.old) ad.now text.now }
+    ensures out { out.new ≡ ad.now ++ (cipher (session_bits E.bits session.old) ad.now text.now ++ tag_of (session_bits E.bits session.old) ad.now text.now) }
 {
     let end = HEADER + text.len();
     let mut tag = Tag { bytes: [0; 16] };

@@ -31,7 +31,7 @@ pub struct Dispatch {
 }
 
 pub fn send<E: Engine + Drop>(key: &Key, nonce: &Nonce, orders: &mut [Dispatch]) -> SendingEnd<E>
-    ensures { Along OneWriting (started key.now.bytes nonce.now.bytes) orders.old orders.new (sending bits result) }
+    ensures { Along OneWriting (started key.now.bytes nonce.now.bytes) orders.old orders.new (sending E.bits result) }
 {
     let mut end = SendingEnd::begin(key, nonce);
     for i in 0..orders.len() {
@@ -42,7 +42,7 @@ pub fn send<E: Engine + Drop>(key: &Key, nonce: &Nonce, orders: &mut [Dispatch])
 
 // One call.
 fn carry_out<E: Engine + Drop>(end: &mut SendingEnd<E>, x: &mut Dispatch)
-    ensures { OneWriting (sending bits end.old) x.old x.new (sending bits end.new) }
+    ensures { OneWriting (sending E.bits end.old) x.old x.new (sending E.bits end.new) }
 {
     match &x.order {
         Order::Write(kind, text) => {

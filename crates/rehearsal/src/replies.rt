@@ -34,7 +34,7 @@ pub fn receive<E: Engine + Drop>(
     nonce: &Nonce,
     calls: &mut [Exchange],
 ) -> ReceivingEnd<E>
-    ensures { Along OneTaking (started key.now.bytes nonce.now.bytes) calls.old calls.new (receiving bits result) }
+    ensures { Along OneTaking (started key.now.bytes nonce.now.bytes) calls.old calls.new (receiving E.bits result) }
 {
     let mut end = ReceivingEnd::begin(key, nonce);
     for i in 0..calls.len() {
@@ -45,7 +45,7 @@ pub fn receive<E: Engine + Drop>(
 
 // One call.
 fn respond<E: Engine + Drop>(end: &mut ReceivingEnd<E>, x: &mut Exchange)
-    ensures { OneTaking (receiving bits end.old) x.old x.new (receiving bits end.new) }
+    ensures { OneTaking (receiving E.bits end.old) x.old x.new (receiving E.bits end.new) }
 {
     match &x.ask {
         Ask::Take(frame) => match end.take(frame.as_slice(), x.buffer.as_mut_slice()) {

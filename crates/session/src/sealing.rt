@@ -21,7 +21,7 @@ pub struct Keyed<E> {
 
 impl<E: Engine> Keyed<E> {
     pub fn new(key: &Key) -> Keyed<E>
-        ensures { keyed_bits bits result ≡ keyed key.now.bytes }
+        ensures { keyed_bits E.bits result ≡ keyed key.now.bytes }
     {
         let mut duplex = Duplex::new();
         duplex.absorb(&key.bytes);
@@ -30,7 +30,7 @@ impl<E: Engine> Keyed<E> {
 
     // Begins a session, and gives up the keyed state.
     pub fn give_nonce(self, nonce: &Nonce) -> Session<E>
-        ensures { session_bits bits result ≡ given (keyed_bits bits self) nonce.now.bytes }
+        ensures { session_bits E.bits result ≡ given (keyed_bits E.bits self) nonce.now.bytes }
     {
         let Keyed { mut duplex } = self;
         duplex.absorb(&nonce.bytes);
@@ -47,14 +47,14 @@ pub struct Session<E> {
 impl<E: Engine> Session<E> {
     // The session of a key and a nonce.
     pub fn begin(key: &Key, nonce: &Nonce) -> Session<E>
-        ensures { session_bits bits result ≡ begun key.now.bytes nonce.now.bytes }
+        ensures { session_bits E.bits result ≡ begun key.now.bytes nonce.now.bytes }
     {
         Keyed::new(key).give_nonce(nonce)
     }
 
     // A second session at the same bits.
     pub fn copy(&self) -> Session<E>
-        ensures { session_bits bits result ≡ session_bits bits self.now }
+        ensures { session_bits E.bits result ≡ session_bits E.bits self.now }
     {
         Session {
             duplex: self.duplex.copy(),
@@ -70,9 +70,9 @@ impl<E: Engine> Session<E> {
         tag: &mut Tag,
     ) -> Result<usize, SessionFault>
         ensures value { result ≡ seal_answer text.now (length out.old) }
-        ensures moved { session_bits bits self.new ≡ seal_bits (session_bits bits self.old) ad.now text.now result }
-        ensures out { out.new ≡ seal_out (session_bits bits self.old) ad.now text.now out.old result }
-        ensures tag { tag.new.bytes ≡ seal_tag (session_bits bits self.old) ad.now text.now tag.old.bytes result }
+        ensures moved { session_bits E.bits self.new ≡ seal_bits (session_bits E.bits self.old) ad.now text.now result }
+        ensures out { out.new ≡ seal_out (session_bits E.bits self.old) ad.now text.now out.old result }
+        ensures tag { tag.new.bytes ≡ seal_tag (session_bits E.bits self.old) ad.now text.now tag.old.bytes result }
     {
         if out.len() < text.len() {
             return Err(SessionFault::Short { room: out.len() });
@@ -89,11 +89,11 @@ impl<E: Engine> Session<E> {
         tag: &Tag,
         out: &mut [u8],
     ) -> Result<usize, SessionFault>
-        ensures value { result ≡ open_answer (session_bits bits self.old) ad.now ciphertext.now tag.now.bytes (length out.old) }
-        ensures moved { session_bits bits self.new ≡ open_bits (session_bits bits self.old) ad.now ciphertext.now result }
-        ensures out { out.new ≡ open_out (session_bits bits self.old) ad.now ciphertext.now out.old result }
-        ensures back { ReadsBack (session_bits bits self.old) ad.now ciphertext.now tag.now.bytes out.old result (session_bits bits self.new) out.new }
-        ensures only { OnlySealed (session_bits bits self.old) ad.now ciphertext.now tag.now.bytes result (session_bits bits self.new) out.new }
+        ensures value { result ≡ open_answer (session_bits E.bits self.old) ad.now ciphertext.now tag.now.bytes (length out.old) }
+        ensures moved { session_bits E.bits self.new ≡ open_bits (session_bits E.bits self.old) ad.now ciphertext.now result }
+        ensures out { out.new ≡ open_out (session_bits E.bits self.old) ad.now ciphertext.now out.old result }
+        ensures back { ReadsBack (session_bits E.bits self.old) ad.now ciphertext.now tag.now.bytes out.old result (session_bits E.bits self.new) out.new }
+        ensures only { OnlySealed (session_bits E.bits self.old) ad.now ciphertext.now tag.now.bytes result (session_bits E.bits self.new) out.new }
     {
         if out.len() < ciphertext.len() {
             return Err(SessionFault::Short { room: out.len() });
@@ -104,9 +104,9 @@ impl<E: Engine> Session<E> {
     // Seals into a buffer of just the right length, and gives the tag.
     fn seal_whole(&mut self, ad: &[u8], text: &[u8], out: &mut [u8]) -> Tag
         requires { length text.now ≡ length out.old }
-        ensures value { result.bytes ≡ tag_of (session_bits bits self.old) ad.now text.now }
-        ensures moved { session_bits bits self.new ≡ after (session_bits bits self.old) ad.now text.now }
-        ensures out { out.new ≡ cipher (session_bits bits self.old) ad.now text.now }
+        ensures value { result.bytes ≡ tag_of (session_bits E.bits self.old) ad.now text.now }
+        ensures moved { session_bits E.bits self.new ≡ after (session_bits E.bits self.old) ad.now text.now }
+        ensures out { out.new ≡ cipher (session_bits E.bits self.old) ad.now text.now }
     {
         out.copy_from_slice(text);
         self.duplex.absorb(ad);
@@ -123,9 +123,9 @@ impl<E: Engine> Session<E> {
         text: &mut [u8],
     ) -> Result<usize, SessionFault>
         requires { length ciphertext.now ≡ length text.old }
-        ensures value { result ≡ verdict ciphertext.now (opens (session_bits bits self.old) ad.now ciphertext.now tag.now.bytes) }
-        ensures moved { session_bits bits self.new ≡ after (session_bits bits self.old) ad.now (plain (session_bits bits self.old) ad.now ciphertext.now) }
-        ensures text { text.new ≡ shown (opens (session_bits bits self.old) ad.now ciphertext.now tag.now.bytes) (plain (session_bits bits self.old) ad.now ciphertext.now) }
+        ensures value { result ≡ verdict ciphertext.now (opens (session_bits E.bits self.old) ad.now ciphertext.now tag.now.bytes) }
+        ensures moved { session_bits E.bits self.new ≡ after (session_bits E.bits self.old) ad.now (plain (session_bits E.bits self.old) ad.now ciphertext.now) }
+        ensures text { text.new ≡ shown (opens (session_bits E.bits self.old) ad.now ciphertext.now tag.now.bytes) (plain (session_bits E.bits self.old) ad.now ciphertext.now) }
     {
         let mut guard = Guard {
             text,
@@ -146,8 +146,8 @@ impl<E: Engine> Session<E> {
 
     // The tag of what has been absorbed.
     fn squeeze_tag(&mut self) -> Tag
-        ensures value { result.bytes ≡ squeezed (blanked (session_bits bits self.old) 8) 16 }
-        ensures moved { session_bits bits self.new ≡ drained (blanked (session_bits bits self.old) 8) 16 }
+        ensures value { result.bytes ≡ squeezed (blanked (session_bits E.bits self.old) 8) 16 }
+        ensures moved { session_bits E.bits self.new ≡ drained (blanked (session_bits E.bits self.old) 8) 16 }
     {
         let mut bytes = [0; 16];
         self.duplex.blank(BLANKS);

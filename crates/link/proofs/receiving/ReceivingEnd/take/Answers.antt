@@ -40,7 +40,7 @@ pub slice_bounds-open-start-2 : goal.slice_bounds-open-start-2
 slice_bounds-open-start-2 g c = slice_bounds-open-count-2 g c
 
 pub invariant_of-self : goal.invariant_of-self
-invariant_of-self g c = let n = (passes _ _ _ _ c.in_ok-kind.ensures).below in (omega arith, tt)
+invariant_of-self g c = let n = (passes _ _ _ _ c.in_ok-kind.ensures).below in record { within = omega arith }
 
 pub returns-in_err-open : goal.returns-in_err-open
 returns-in_err-open g c =

@@ -17,7 +17,7 @@ slice_bounds-lay-end g c =
     omega arith
 
 pub invariant_of-self : goal.invariant_of-self
-invariant_of-self g c = let n = (readied _ _ _ _ _ c.in_ok-known.ensures).below in (omega arith, tt)
+invariant_of-self g c = let n = (readied _ _ _ _ _ c.in_ok-known.ensures).below in record { within = omega arith }
 
 pub returns : goal.returns
 unfolding next_of frame_of

@@ -7,7 +7,7 @@ pub invariant_of-result : goal.invariant_of-result
 invariant_of-result c =
     let n = c.args.self.value in
     let is = c.from.ensures ∙ (ap (λ t. get_or t n 0) c.powers.ensures.value ∙ getD_powers n c.args.self.low) in
-    (subst (λ x. x < 257) (sym is) (omega arith), tt)
+    record { below = subst (λ x. x < 257) (sym is) (omega arith) }
 
 pub returns : goal.returns
 returns c =

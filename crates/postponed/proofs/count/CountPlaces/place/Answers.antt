@@ -11,7 +11,7 @@ pub invariant_of-position : goal.invariant_of-position
 invariant_of-position c =
     let j = c.args.lane.number in
     let table = ap (λ t. get_or t j 0) c.positions.ensures ∙ getD_positions j c.args.lane.low in
-    (subst (λ p. p < 257) (sym table) (position_range j c.args.lane.low).1, tt)
+    record { below = subst (λ p. p < 257) (sym table) (position_range j c.args.lane.low).1 }
 
 pub returns : goal.returns
 returns c =

@@ -7,7 +7,7 @@ pub invariant_of-result : goal.invariant_of-result
 invariant_of-result c =
     let j = c.args.lane.number in
     let is = ap (λ t. get_or t j 0) c.positions.ensures ∙ getD_positions j c.args.lane.low in
-    (subst (λ n. n < 257) (sym is) (position_range j c.args.lane.low).1, tt)
+    record { below = subst (λ n. n < 257) (sym is) (position_range j c.args.lane.low).1 }
 
 pub returns : goal.returns
 returns c =

@@ -17,7 +17,7 @@ loop-k-preserved c =
     )
 
 pub invariant_of-result : goal.invariant_of-result
-invariant_of-result c = (length-set c.loop-k.array 8 _ ∙ c.loop-k.invariant.0, (mask_spare c.loop-k.array c.loop-k.invariant.0, tt))
+invariant_of-result c = record { width = length-set c.loop-k.array 8 _ ∙ c.loop-k.invariant.0; spare = mask_spare c.loop-k.array c.loop-k.invariant.0 }
 
 pub returns : goal.returns
 returns c =

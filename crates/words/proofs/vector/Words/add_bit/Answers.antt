@@ -14,10 +14,11 @@ pub invariant_of-self : goal.invariant_of-self
 invariant_of-self c =
     let w = c.args.self.now in
     let p = c.args.p.value in
-    let b = c.args.b in (
-      length-set w.array (p / 32) _ ∙ w.width,
-      (subst (λ t. get_or t 8 0 < 2) (sym (masked w.array p b)) (spare_added w.array p (b % 2) (omega arith) w.width (omega arith) w.spare), tt),
-    )
+    let b = c.args.b in
+    record {
+      width = length-set w.array (p / 32) _ ∙ w.width;
+      spare = subst (λ t. get_or t 8 0 < 2) (sym (masked w.array p b)) (spare_added w.array p (b % 2) (omega arith) w.width (omega arith) w.spare);
+    }
 
 pub returns : goal.returns
 returns c =

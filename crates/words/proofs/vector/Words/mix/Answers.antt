@@ -21,7 +21,7 @@ loop-k-preserved g c =
     )
 
 pub invariant_of-result : goal.invariant_of-result
-invariant_of-result g c = (c.loop-k.invariant.0, (c.loop-k.invariant.2 (omega arith), tt))
+invariant_of-result g c = record { width = c.loop-k.invariant.0; spare = c.loop-k.invariant.2 (omega arith) }
 
 pub returns : goal.returns
 returns g c =
