@@ -35,5 +35,5 @@ returns-in_err-open c =
     let value =
     c.in_err-open.ensures.value
     ∙ ap₂ (λ s ad. open_answer s ad (take (n - 0) file) c.copy_from_slice.new.self (length c.as_mut_slice.result.now)) c.begin-session.ensures c.as_slice.ensures.value in
-    let p = err_from_is_err_and c.from-residual-in-err-open.result c.from-residual-in-err-open.ensures.1 in
+    let p = err_from_is_err_and c.from_residual-in_err-open.result c.from_residual-in_err-open.ensures.1 in
     rw (p.1, p.2) (not_opened _ _ file _ _ _ _ c.if-sealed-lt16.false front back room value)

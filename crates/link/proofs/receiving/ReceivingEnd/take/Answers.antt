@@ -17,8 +17,8 @@ returns-in_err-kind g c =
     let old = c.args.text.now in
     let e = c.in_err-kind.field-0.0 in
     let h = c.in_err-kind.ensures in
-    let p = err_from_is_err_and c.from-residual.result c.from-residual.ensures.1 in
-    let r : c.from-residual.result ≡ Err e = p.1 ∙ ap Err p.2 in
+    let p = err_from_is_err_and c.from_residual.result c.from_residual.ensures.1 in
+    let r : c.from_residual.result ≡ Err e = p.1 ∙ ap Err p.2 in
     record {
       value = r ∙ answer_err m f (length old) e h;
       moved = sym (ap (take_standing m f) r);
@@ -55,8 +55,8 @@ returns-in_err-open g c =
     let et = c.copy_from_slice.ensures.after ∙ tag_is f in
     let eb = body_is f in
     let t = took_tag m f old s _ _ k same et eb h y c.in_err-open.ensures.value in
-    let p = err_from_is_err_and c.from-residual-in-err-open.result c.from-residual-in-err-open.ensures.1 in
-    let r : c.from-residual-in-err-open.result ≡ Err (Session y) = p.1 ∙ ap Err p.2 in
+    let p = err_from_is_err_and c.from_residual-in_err-open.result c.from_residual-in_err-open.ensures.1 in
+    let r : c.from_residual-in_err-open.result ≡ Err (Session y) = p.1 ∙ ap Err p.2 in
     record {
       value = r ∙ t.1;
       moved = sym (ap (take_standing m f) r);
