@@ -101,7 +101,7 @@ trail_sent Sent.silent = here
 trail_sent {m} {m'' = z} (Sent.sent {vs} (Owed.writes_next {b} {t} {old} {f} w r) h) =
     subst (λ (g : List ℕ). Trail m (g ∷ frames vs) z) (sym (take_at f (drop (length f) old) (length f) refl)) (on b t w (trail_sent h))
 trail_sent (Sent.sent (Owed.too_tight w r) h) = trail_sent h
-trail_sent (Sent.sent (Owed.Writes-nothing w r) h) = trail_sent h
+trail_sent (Sent.sent (Owed.writes_nothing w r) h) = trail_sent h
 trail_sent (Sent.sent Owed.tells h) = trail_sent h
 
 trail_one : {m p m₁ m₂ : Standing} {fs : List (List ℕ)} → m ≡ p → Trail m fs m₁ → Trail p fs m₂ → m₁ ≡ m₂

@@ -7,6 +7,7 @@ use fault::{Fault, Word};
 use hex::{bytes, sixteen};
 use sealed::Secret;
 use session::{Key, Nonce};
+use std::process::ExitCode;
 use std::{env, fs};
 
 const HELP: &str = "usage: seal seal KEY NONCE AD IN OUT
@@ -90,10 +91,12 @@ fn run(rt: &HostRuntime) -> Result<(), Fault> {
     carry_out(rt, words.as_slice())
 }
 
-fn main(rt: HostRuntime) -> Result<(), Fault> {
-    let outcome = run(&rt);
-    if let Err(fault) = &outcome {
-        let _ = eprintln!(rt; "seal: {fault}");
+fn main(rt: HostRuntime) -> ExitCode {
+    match run(&rt) {
+        Ok(()) => ExitCode::SUCCESS,
+        Err(fault) => {
+            let _ = eprintln!(rt; "seal: {fault}");
+            ExitCode::FAILURE
+        }
     }
-    outcome
 }

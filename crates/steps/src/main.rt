@@ -3,6 +3,7 @@ ghost use Rattle.std.specs.Prelude.{◌≡◌};
 ghost use Rattle.duplex.specs.State.{zeros};
 ghost use Rattle.steps.specs.Chains.{chained};
 
+use anyhow::anyhow;
 use duplex::Engine;
 use plain::Plain;
 use postponed::Postponed;
@@ -29,14 +30,14 @@ fn start(rt: &HostRuntime) -> anyhow::Result<()> {
     let mut args = env::args(rt)?;
     let _program = args.next();
     let (Some(engine), Some(count), None) = (args.next(), args.next(), args.next()) else {
-        return Err(USAGE.into());
+        return Err(anyhow!(USAGE));
     };
     let count = count.parse::<u32>()?;
     let word = match engine.as_str() {
         "plain" => chain::<Plain>(count),
         "packed" => chain::<Packed>(count),
         "postponed" => chain::<Postponed>(count),
-        _ => return Err(USAGE.into()),
+        _ => return Err(anyhow!(USAGE)),
     };
     println!(rt; "{word}")?;
     Ok(())
