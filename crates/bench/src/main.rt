@@ -1,4 +1,6 @@
 // The bench: reads a script of duplex operations and prints the suite's answers.
+#![tactic(auto)]
+
 use anyhow::anyhow;
 use console::Console;
 use duplex::Engine;

@@ -1,12 +1,11 @@
 -- Laws of the lines: a line by its first byte and the rest, as the code takes it apart.
-use Rattle.std.proofs.Common.{◌≡◌, ℕ, suc, ◌+◌, ◌-◌, ◌*◌, ◌%◌, ◌<◌, ◌≤◌, Bool, true, false, cond, ◌||◌, eqb, ltb, List, [], ◌∷◌, ◌++◌, length, get_or, take, drop, set, is_some, Some, None, Ok, Err, Option, Result, sym, refl, ap, ◌∙◌, arith}
+use Rattle.std.proofs.Common.{◌≡◌, ℕ, ◌+◌, ◌-◌, ◌*◌, ◌%◌, ◌<◌, ◌≤◌, Bool, true, false, cond, ◌||◌, eqb, List, [], ◌∷◌, ◌++◌, length, get_or, take, drop, set, is_some, Some, None, Err, Option, sym, refl, ap, ◌∙◌, arith}
 use Rattle.std.specs.Option.{option_or}
 use Rattle.std.proofs.lemmas.List.{at_drop_more, at_drop_all, append_assoc, append-nil, drop_more, length-drop, take_more_set}
 use Rattle.std.proofs.lemmas.Slice.{first_rest}
-use Rattle.std.proofs.lemmas.Bool.{le-ltb, ne_eqb, eq-eqb}
+use Rattle.std.proofs.lemmas.Bool.{le-ltb, ne_eqb}
 use Rattle.console.specs.declared.terms.Command.{Command}
-use Rattle.console.specs.declared.terms.Fault.{Fault}
-use Rattle.console.specs.declared.terms.Fault.TheVariants.{Letter, Byte, Hex, Count, Length}
+use Rattle.console.specs.declared.terms.Fault.TheVariants.{Byte, Length}
 use Rattle.console.specs.Lines.{hex_value, bad_digit, hex_fault, unless, with_string, count_digits, with_count, by_letter, parsed, digit_value, unhex}
 
 -- all but the first byte

@@ -1,13 +1,13 @@
 -- The law of a run: byte by byte, the bench prints the transcript of its input. That it keeps only 131 bytes of a line changes nothing.
-use Rattle.std.proofs.Common.{◌≡◌, ℕ, zero, suc, ◌+◌, ◌-◌, ◌<◌, ◌≤◌, Bool, true, false, cond, eqb, ltb, leb, List, [], ◌∷◌, ◌++◌, length, take, Some, None, Ok, Err, Option, sym, refl, ap, ◌∙◌, ap₂, ⊎_elim, arith}
-use Rattle.std.proofs.lemmas.List.{append_assoc, append-nil, length-take, take_all}
-use Rattle.std.proofs.lemmas.Bool.{cases_lt, cases_Bool, lt-ltb, leb-true, leb-false, cond_both, eqb-true, eqb-false, eq-eqb, ne_eqb}
+use Rattle.std.proofs.Common.{◌≡◌, ℕ, zero, suc, ◌+◌, ◌-◌, ◌<◌, ◌≤◌, Bool, true, false, cond, eqb, leb, List, [], ◌∷◌, ◌++◌, length, take, Some, None, Err, Option, sym, refl, ap, ◌∙◌, ap₂, ⊎_elim, arith}
+use Rattle.std.proofs.lemmas.List.{append-nil, length-take, take_all}
+use Rattle.std.proofs.lemmas.Bool.{cases_lt, cases_Bool, lt-ltb, leb-true, leb-false, ne_eqb}
 use Rattle.duplex.specs.State.{zeros}
 use Rattle.console.specs.declared.terms.Fault.TheVariants.{Length}
 use Rattle.console.specs.Buffers.{kept}
 use Rattle.console.specs.Lines.{parsed, short_line, string_of}
 use Rattle.console.specs.Replies.{bits_by, text_by, line_feed, line_bits, printed}
-use Rattle.console.specs.Runs.{lines_of, replies, transcript, Standing, stands, to_come, ended, reply, after_byte, byte_reply, after_end, end_reply, bytes_of, most_lines}
+use Rattle.console.specs.Runs.{lines_of, replies, transcript, Standing, stands, to_come, ended, reply, after_byte, byte_reply, end_reply, bytes_of, most_lines}
 use Rattle.console.proofs.BufferLaws.{take_front}
 
 parsed_long : (l : List ℕ) → 130 < length l → parsed l ≡ Err Length

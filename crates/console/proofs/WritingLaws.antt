@@ -1,5 +1,5 @@
 -- What is written as a line is read back: hex digits, strings and counts.
-use Rattle.std.proofs.Common.{◌≡◌, ℕ, zero, suc, ◌+◌, ◌*◌, ◌/◌, ◌%◌, ◌^◌, ◌<◌, ◌≤◌, Bool, true, false, cond, ◌&&◌, ◌||◌, eqb, ltb, leb, List, [], ◌∷◌, length, get_or, is_some, Some, None, Ok, Err, decimal, Option, Result, unwrap_or, sym, refl, ap, ◌∙◌, ap₂, arith}
+use Rattle.std.proofs.Common.{◌≡◌, ℕ, suc, ◌+◌, ◌*◌, ◌/◌, ◌%◌, ◌<◌, ◌≤◌, Bool, true, false, cond, ◌&&◌, ◌||◌, eqb, leb, List, [], ◌∷◌, length, get_or, is_some, Some, None, Ok, Err, decimal, Option, Result, unwrap_or, sym, refl, ap, ◌∙◌, ap₂, arith}
 use Rattle.std.specs.List.{range_with_len}
 use Rattle.std.specs.Option.{option_or}
 use Rattle.std.specs.Fmt.{digits}
@@ -8,9 +8,9 @@ use Rattle.std.proofs.lemmas.Bool.{eqb-true, leb-true, and_parts, le-ltb, ne_eqb
 use Rattle.duplex.proofs.Tables.{every, every_at}
 use Rattle.console.specs.declared.terms.Command.{Command}
 use Rattle.console.specs.declared.terms.Fault.{Fault}
-use Rattle.console.specs.declared.terms.Fault.TheVariants.{Byte, Length}
+use Rattle.console.specs.declared.terms.Fault.TheVariants.{Length}
 use Rattle.console.specs.Buffers.{hex, hex_digit}
-use Rattle.console.specs.Lines.{hex_value, bad_digit, hex_fault, unless, with_string, with_count, by_letter, short_line, parsed, digit_value, unhex}
+use Rattle.console.specs.Lines.{hex_value, bad_digit, hex_fault, unless, with_string, with_count, by_letter, parsed, digit_value, unhex}
 use Rattle.console.specs.Writing.{ShortString}
 use Rattle.console.proofs.BufferLaws.{length-hex}
 

@@ -1,4 +1,6 @@
 // The interpreter of a bench line: it reads a command, carries it out on a duplex object and gives the bytes to print.
+#![tactic(auto)]
+
 mod buffer;
 mod carry;
 mod example;

@@ -1,4 +1,6 @@
 // Digests of files, in the form known from sha256sum, and keys by the deck function.
+#![tactic(auto)]
+
 use anyhow::anyhow;
 use std::env;
 use std::env::Args;

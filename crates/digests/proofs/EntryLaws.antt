@@ -3,7 +3,7 @@ use Rattle.std.proofs.Common.{◌≡◌, ℕ, zero, suc, ◌+◌, ◌-◌, ◌<�
 use Rattle.std.proofs.lemmas.List.{at_drop_more, at_drop_all}
 use Rattle.std.proofs.lemmas.Bool.{ltb-false}
 use Rattle.digests.specs.declared.entries.Entry.{Entry}
-use Rattle.digests.specs.Entries.{too_far, outside, cut, cuts}
+use Rattle.digests.specs.Entries.{too_far, outside, cuts}
 use Rattle.digests.specs.Digests.{absorbed_all}
 
 abbrev pub no_entry : Entry

@@ -1,12 +1,12 @@
 -- Feeding: appending piece by piece is appending the whole, a string's end makes it the string absorbed, and a list of calls absorbs what it spells.
-use Rattle.std.proofs.Common.{◌≡◌, ℕ, ◌+◌, ◌-◌, ◌<◌, ◌≤◌, min, Bool, true, false, cond, ◌||◌, leb, List, [], ◌∷◌, ◌++◌, map, length, get_or, take, drop, sym, refl, ap, ◌∙◌, ap₂, arith, leb-false, leb-true}
+use Rattle.std.proofs.Common.{◌≡◌, ℕ, ◌+◌, ◌-◌, ◌<◌, ◌≤◌, min, Bool, true, false, ◌||◌, leb, List, [], ◌∷◌, ◌++◌, map, length, get_or, take, drop, sym, refl, ap, ◌∙◌, ap₂, arith, leb-false, leb-true}
 use Rattle.std.proofs.lemmas.List.{append_assoc, append-nil, take_all, drop_all, take_at, drop_at, take_rest, at_drop_more, at_drop_all}
 use Rattle.duplex.specs.State.{step, zeros}
-use Rattle.duplex.specs.Strings.{padded, steps, single_blocks, absorbed_unkeyed, blanked, squeezed}
+use Rattle.duplex.specs.Strings.{padded, absorbed_unkeyed, blanked, squeezed}
 use Rattle.digests.specs.declared.pieces.FeedCall.{FeedCall}
 use Rattle.digests.specs.declared.pieces.FeedCall.TheVariants.{Append, End}
 use Rattle.digests.specs.Digests.{absorbed_all, digested}
-use Rattle.digests.specs.Feeding.{byte_blocks, appended, ended, finished, some_bytes, spelled, joined, piecewise}
+use Rattle.digests.specs.Feeding.{appended, ended, finished, some_bytes, spelled, joined, piecewise}
 
 abbrev after_byte : List ℕ → ℕ → List ℕ
 after_byte s b = step (step s (padded (b ∷ []))) (padded [])

@@ -1,4 +1,5 @@
 // Digests and the deck function over any engine. Nothing is allocated.
+#![tactic(auto)]
 
 mod entries;
 mod feeding;

@@ -1,12 +1,12 @@
 -- The positions, and the turns of the loops that inject a block and read a word: what every engine's proof uses.
-use Rattle.std.proofs.Common.{◌≡◌, ℕ, zero, suc, ◌+◌, ◌-◌, ◌*◌, ◌/◌, ◌%◌, ◌^◌, ◌<◌, ◌≤◌, Bool, true, ◌&&◌, ltb, List, [], ◌∷◌, ◌++◌, map, length, get_or, sym, refl, ap, ◌∙◌, subst, mul-le-mul_right, mul_assoc, pow-suc, zero-add, arith}
+use Rattle.std.proofs.Common.{◌≡◌, ℕ, suc, ◌+◌, ◌-◌, ◌*◌, ◌%◌, ◌^◌, ◌<◌, ◌≤◌, Bool, true, ◌&&◌, ltb, List, [], ◌∷◌, ◌++◌, map, length, get_or, sym, refl, ap, ◌∙◌, subst, mul-le-mul_right, mul_assoc, pow-suc, zero-add, arith}
 use lib.Bits.{bit_or, or_shifted_r}
 use Rattle.std.specs.List.{range_with_len}
 use Rattle.std.proofs.lemmas.Nat.{shl_whole, pow-add}
 use Rattle.std.proofs.lemmas.List.FromFn.{get_or-map-range_with_len, length-map-range_with_len, map-range_with_len_more}
 use Rattle.std.proofs.lemmas.Bool.{and_parts, ltb-true}
 use Rattle.duplex.specs.State.{position, positions, bit, add_at, add_bits, number}
-use Rattle.duplex.proofs.Tables.{every, every_at}
+use Rattle.duplex.proofs.Tables.{every_at}
 
 -- the table at each place
 pub getD_positions : (j : ℕ) → j < 33 → get_or positions j 0 ≡ position j

@@ -1,5 +1,5 @@
 -- Worked figures of the rules, and the numbers of steps that strings take.
-use Rattle.std.specs.Prelude.{◌≡◌, ℕ, ◌+◌, ◌*◌, ◌/◌, List, [], ◌∷◌, length, set, slice_set}
+use Rattle.std.specs.Prelude.{◌≡◌, ℕ, ◌+◌, ◌*◌, ◌/◌, List, [], ◌∷◌, length, slice_set}
 use Rattle.duplex.specs.State.{zeros, step, reading}
 use Rattle.duplex.specs.Strings.{padded, blocks, single_blocks, steps, absorbed, absorbed_unkeyed, squeezed, drained}
 

@@ -1,4 +1,6 @@
 // The duplex state of Subterranean 2.0: what an engine is, and the tables and figures that all engines share.
+#![tactic(auto)]
+
 ghost use Rattle.std.specs.Prelude.{◌≡◌, ℕ, List};
 ghost use Rattle.duplex.specs.State.{IsState, zeros, step, reading};
 

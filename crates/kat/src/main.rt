@@ -1,4 +1,6 @@
 // Prints the suite's known-answer files, in the form of the NIST lightweight cryptography call.
+#![tactic(auto)]
+
 use anyhow::anyhow;
 use digests::{Entry, digest};
 use duplex::Engine;

@@ -1,19 +1,19 @@
 -- What the checks on a frame and its opening answer, case by case.
-use Rattle.std.proofs.Common.{◌≡◌, ℕ, ◌+◌, ◌-◌, ◌<◌, ◌≤◌, Bool, true, false, cond, eqb, ltb, List, [], ◌∷◌, ◌++◌, length, get_or, take, drop, replicate, Some, None, Ok, Err, Option, sym, refl, ap, ◌∙◌, subst, ap₂, arith}
+use Rattle.std.proofs.Common.{◌≡◌, ℕ, ◌+◌, ◌-◌, ◌<◌, ◌≤◌, Bool, true, false, cond, eqb, ltb, List, [], ◌∷◌, ◌++◌, length, get_or, take, drop, replicate, Some, None, Ok, Err, Option, sym, refl, ap, ◌∙◌, subst, arith}
 use Rattle.std.specs.Str.{bytes_eq}
 use Rattle.std.proofs.lemmas.List.{length-take, length-drop, take_rest}
 use Rattle.std.proofs.lemmas.Bool.{lt-ltb, le-ltb, eq-eqb, ne_eqb, ltb-true, ltb-false, eqb-true, eqb-false}
 use Rattle.duplex.specs.Strings.{word_bytes}
 use Rattle.session.specs.declared.fault.SessionFault.{SessionFault}
 use Rattle.session.specs.declared.fault.SessionFault.TheVariants.{Tag}
-use Rattle.session.specs.Sessions.{opens, plain}
+use Rattle.session.specs.Sessions.{opens}
 use Rattle.session.specs.Calls.{open_answer, open_out, verdict}
 use Rattle.session.proofs.SessionLaws.{open_fits, length-plain}
 use Rattle.link.specs.declared.kind.Kind.{Kind}
 use Rattle.link.specs.declared.fault.LinkFault.{LinkFault}
 use Rattle.link.specs.declared.fault.LinkFault.TheVariants.{Spent, Empty, UnknownKind, WrongLength, ShortBuffer, WrongNumber, Session}
 use Rattle.link.specs.Kinds.{text_length, kind_of}
-use Rattle.link.specs.Frames.{Standing, largest_number, overhead, header_in, number_in, body_in, tag_in, text_in}
+use Rattle.link.specs.Frames.{Standing, largest_number, overhead, header_in, number_in, body_in, tag_in}
 use Rattle.link.specs.Calls.{Checked, checked, known, fitting, take_answer, take_text}
 
 -- What is known of a frame of the kind k at each answer.

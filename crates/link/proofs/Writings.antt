@@ -10,7 +10,7 @@ use Rattle.link.specs.declared.kind.Kind.{Kind}
 use Rattle.link.specs.declared.fault.LinkFault.TheVariants.{Spent, UnknownKind, WrongLength, ShortBuffer}
 use Rattle.link.specs.Kinds.{text_length, kind_of}
 use Rattle.link.specs.Frames.{largest_number, overhead}
-use Rattle.link.specs.Calls.{Checked, vetted, named, suited}
+use Rattle.link.specs.Calls.{Checked, vetted, named}
 
 -- What is known of a text at each answer.
 pub data Vetted (n b : ℕ) (t : List ℕ) (room : ℕ) : Checked → Type 0 where

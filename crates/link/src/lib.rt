@@ -1,4 +1,6 @@
 // The link over any engine: kinds, frames, and the two ends. Nothing here allocates.
+#![tactic(auto)]
+
 mod fault;
 mod frame;
 mod kind;

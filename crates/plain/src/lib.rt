@@ -1,4 +1,6 @@
 // The plain engine: 257 cells of one byte, each 0 or 1.
+#![tactic(auto)]
+
 ghost use Rattle.std.specs.Prelude.{◌≡◌, ℕ, ◌<◌, length, slice_index};
 ghost use Rattle.duplex.specs.State.{inject, position};
 ghost use Rattle.std.proofs.Common.{rules, arith};

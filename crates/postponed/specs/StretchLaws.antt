@@ -5,7 +5,7 @@ use Rattle.std.proofs.Math.Nat.{mul-mul-mul_comm, pow-succ'}
 use Rattle.std.specs.List.{range_with_len}
 use Rattle.std.proofs.lemmas.List.{get_or-set_same, get_or-set_other}
 use Rattle.std.proofs.lemmas.Bool.{cases_Bool, cases_eq, eqb-true, eqb-false, eq-eqb, ne_eqb}
-use Rattle.duplex.specs.State.{IsState, at, state, chi, theta, iota, pi, round, bit, add_at, add_bits, position, inject, step, number, read_bit, reading}
+use Rattle.duplex.specs.State.{IsState, at, chi, theta, iota, pi, round, bit, add_at, add_bits, position, inject, step, number, read_bit, reading}
 use Rattle.duplex.proofs.StateLaws.{at_state, state_ext, getD_state, length-state, state_all, state_is}
 use Rattle.words.specs.Packing.{mixed, chi_rule, chi_by, theta_rule, theta_by, round_by, place_by, inject_by, read_bit_by, reading_by}
 use Rattle.words.specs.ModLaws.{cut_left, cut_right}

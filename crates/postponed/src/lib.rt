@@ -1,4 +1,6 @@
 // The postponed engine: shuffles are counted and never carried out.
+#![tactic(auto)]
+
 mod count;
 mod engine;
 mod table;

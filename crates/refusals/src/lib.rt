@@ -1,4 +1,5 @@
 // What every refusal tells: its number, the layer that refuses, and a place.
+#![tactic(auto)]
 
 #[derive(Clone, Copy)]
 pub enum Layer {

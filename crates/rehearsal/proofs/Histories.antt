@@ -1,5 +1,5 @@
 -- Runs: each call of a receiving end is due; refused frames leave no trace; answers are determined; both ends stand together.
-use Rattle.std.proofs.Common.{◌≡◌, ℕ, ◌+◌, ◌≤◌, List, [], ◌∷◌, ◌++◌, map, length, take, drop, Some, None, Ok, Err, vec_items, sym, refl, ap, ◌∙◌, subst, ap₂, add-zero, arith}
+use Rattle.std.proofs.Common.{◌≡◌, ℕ, ◌+◌, ◌≤◌, List, [], ◌∷◌, map, length, take, drop, Some, Ok, Err, vec_items, sym, refl, ap, ◌∙◌, subst, ap₂, add-zero, arith}
 use Rattle.std.proofs.lemmas.List.{take_at}
 use Rattle.link.specs.declared.kind.Kind.{Kind}
 use Rattle.link.specs.Kinds.{kind_byte, text_length, least_room, kind_of}

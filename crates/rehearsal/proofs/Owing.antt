@@ -1,5 +1,5 @@
 -- Runs of a sending end: each call is owed.
-use Rattle.std.proofs.Common.{◌≡◌, ℕ, ◌+◌, ◌<◌, ◌≤◌, Bool, true, false, cond, ◌&&◌, eqb, ltb, List, ◌++◌, map, length, drop, Some, None, Ok, Err, vec_items, Option, sym, refl, ap, ◌∙◌, subst, add-zero, arith}
+use Rattle.std.proofs.Common.{◌≡◌, ℕ, ◌+◌, ◌<◌, ◌≤◌, Bool, true, false, cond, ◌&&◌, eqb, ltb, List, ◌++◌, map, length, drop, Some, None, vec_items, Option, sym, refl, ap, ◌∙◌, subst, add-zero, arith}
 use Rattle.std.proofs.lemmas.Bool.{le-ltb, ne_eqb}
 use Rattle.link.specs.declared.kind.Kind.{Kind}
 use Rattle.link.specs.declared.fault.LinkFault.{LinkFault}
@@ -14,8 +14,8 @@ use Rattle.rehearsal.specs.declared.receipts.Order.{Order}
 use Rattle.rehearsal.specs.declared.receipts.Receipt.{Receipt}
 use Rattle.rehearsal.specs.declared.receipts.Dispatch.{Dispatch}
 use Rattle.rehearsal.specs.Law.{Writing, Written, tally, Withholds, Owed, Sent}
-use Rattle.rehearsal.specs.Law.Writing.{write_text, tell}
-use Rattle.rehearsal.specs.Law.Written.{wrote, refused, told}
+use Rattle.rehearsal.specs.Law.Writing.{write_text}
+use Rattle.rehearsal.specs.Law.Written.{wrote, refused}
 use Rattle.rehearsal.specs.Law.Owed.{writes_next, too_tight, writes_nothing, tells}
 use Rattle.rehearsal.specs.Rehearsals.{ordered, ordered_by, done, done_by, receipted, receipt_by, frame_by, written_by, OneWriting, Along}
 

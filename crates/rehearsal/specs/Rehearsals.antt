@@ -1,6 +1,5 @@
 -- A rehearsal: its calls and answers in the words of the law, each call to the last byte, and what holds of the whole.
 use Rattle.std.specs.Prelude.{◌≡◌, ℕ, ◌≤◌, List, [], ◌∷◌, map, length, take, Ok, Err, vec_items, Result}
-use Rattle.link.specs.declared.kind.Kind.{Kind}
 use Rattle.link.specs.declared.fault.LinkFault.{LinkFault}
 use Rattle.link.specs.Kinds.{text_length, least_room}
 use Rattle.link.specs.Frames.{Standing, started}

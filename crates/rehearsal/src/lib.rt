@@ -1,4 +1,6 @@
 // Rehearsals: whole runs of two receiving ends and a sending end, with one key and nonce.
+#![tactic(auto)]
+
 ghost use Rattle.link.specs.Calls.{receiving, sending};
 ghost use Rattle.rehearsal.specs.Rehearsals.{Agreed};
 

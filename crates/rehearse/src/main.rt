@@ -1,4 +1,6 @@
 // Rehearsals of the link: a script of frames between a panel and a head.
+#![tactic(auto)]
+
 use anyhow::anyhow;
 use duplex::Engine;
 use plain::Plain;

@@ -1,4 +1,6 @@
 // Seals a file's bytes under a key, a nonce and associated data, and opens them again.
+#![tactic(auto)]
+
 mod fault;
 mod hex;
 mod sealed;

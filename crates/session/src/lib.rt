@@ -1,4 +1,6 @@
 // Authenticated sessions over any engine. Nothing here allocates.
+#![tactic(auto)]
+
 mod fault;
 mod figures;
 mod guard;

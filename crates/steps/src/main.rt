@@ -1,4 +1,6 @@
 // A load for measuring an engine: steps and readings in a chain.
+#![tactic(auto)]
+
 ghost use Rattle.std.specs.Prelude.{◌≡◌};
 ghost use Rattle.duplex.specs.State.{zeros};
 ghost use Rattle.steps.specs.Chains.{chained};

@@ -1,4 +1,6 @@
 // The string operations of the suite, written once over any engine.
+#![tactic(auto)]
+
 ghost use Rattle.std.specs.Prelude.{◌≡◌, ℕ, ◌≤◌, List, [], length, if◌then◌else◌};
 ghost use Rattle.duplex.specs.State.{zeros, step, reading};
 ghost use Rattle.duplex.specs.Strings.{padded, absorbed, absorbed_unkeyed, masked, enciphered, deciphered, blanked, word_bytes, squeezed, drained};

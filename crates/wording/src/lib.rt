@@ -1,4 +1,6 @@
 // The wording of scripts: runs of bytes, bytes in hex, and the names of the kinds.
+#![tactic(auto)]
+
 mod runs;
 mod terms;
 

@@ -1,7 +1,7 @@
 -- With factor 1 the steps are those of the state itself.
 use Rattle.std.proofs.Common.{◌≡◌, ℕ, List, [], ◌∷◌, map, refl, ap, ◌∙◌, one-mul, arith}
 use Rattle.std.specs.List.{range_with_len}
-use Rattle.duplex.specs.State.{bit, at, add_at, add_bits, position, number, read_bit, chi, theta, pi, round, inject, step, reading}
+use Rattle.duplex.specs.State.{bit, add_at, add_bits, position, number, read_bit, chi, theta, pi, round, inject, step, reading}
 use Rattle.words.specs.Packing.{mixed, round_by, place_by, inject_by, read_bit_by, reading_by}
 
 -- bits added at places that are equal

@@ -1,11 +1,11 @@
 -- The state that nine words hold: a bit added, every bit at once, and all zero.
-use Rattle.std.specs.Prelude.{◌≡◌, ℕ, zero, ◌+◌, ◌*◌, ◌/◌, ◌%◌, ◌^◌, ◌<◌, List, length, replicate, ◌≢◌, slice_index, slice_index_or, slice_set}
+use Rattle.std.specs.Prelude.{◌≡◌, ℕ, ◌+◌, ◌*◌, ◌/◌, ◌%◌, ◌^◌, ◌<◌, List, length, replicate, ◌≢◌, slice_index, slice_index_or, slice_set}
 use Rattle.std.proofs.Common.{sym, ap, subst, ◌∙◌, ⊎_elim, arith, length-set}
 use Rattle.std.specs.Int.Bits.{bit_xor, xor_zero_r}
 use Rattle.std.proofs.lemmas.Nat.{xor_lt}
 use Rattle.std.proofs.lemmas.List.{get_or-set_same, get_or-set_other, get_or-replicate, length-replicate}
 use Rattle.std.proofs.lemmas.Bool.{cases_eq}
-use Rattle.duplex.specs.State.{IsState, bit, at, state, zeros, add_at}
+use Rattle.duplex.specs.State.{IsState, bit, at, zeros, add_at}
 use Rattle.duplex.proofs.StateLaws.{at_state, state_ext, getD_state, state_all, state_is}
 use Rattle.words.specs.Packing.{word_bit, cells, rotated, mixed}
 use Rattle.words.specs.BitLaws.{bit-bit_xor, bit_zero, single_here, single_other}

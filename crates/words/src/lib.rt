@@ -1,4 +1,6 @@
 // The 257 bits in nine words of 32 bits, and the packed engine.
+#![tactic(auto)]
+
 mod packed;
 mod residue;
 mod round;

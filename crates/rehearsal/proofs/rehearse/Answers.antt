@@ -1,5 +1,5 @@
 -- The parts of the law, from the three runs.
-use Rattle.std.proofs.Common.{◌≡◌, ℕ, List, map, refl, subst}
+use Rattle.std.proofs.Common.{ℕ, List, map, refl, subst}
 use Rattle.link.specs.Frames.{Standing, started}
 use Rattle.rehearsal.specs.declared.replies.Exchange.{Exchange}
 use Rattle.rehearsal.specs.declared.receipts.Dispatch.{Dispatch}

@@ -1,6 +1,6 @@
 -- One step more, and the end.
 use Rattle.std.proofs.Common.{◌≡◌, ℕ, suc, ◌+◌, ◌-◌, ◌^◌, ◌<◌, ◌≤◌, List, sym, ap, ◌∙◌, ap₂, arith}
-use Rattle.duplex.specs.State.{zeros, step, reading}
+use Rattle.duplex.specs.State.{step, reading}
 use Rattle.steps.specs.Chains.{chained}
 use Rattle.steps.proofs.chain.Goals as goal
 

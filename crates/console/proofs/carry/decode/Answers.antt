@@ -1,6 +1,5 @@
 -- A pair of digits more, and the end.
-use Rattle.std.proofs.Common.{◌≡◌, ◌+◌, ◌*◌, ◌/◌, take, sym, ap, ◌∙◌, arith, length-set}
-use Rattle.console.specs.Lines.{digit_value}
+use Rattle.std.proofs.Common.{◌≡◌, ◌/◌, take, sym, ap, ◌∙◌, arith, length-set}
 use Rattle.console.proofs.LineLaws.{unhex_more, unhex_none}
 use Rattle.console.proofs.carry.decode.Goals as goal
 

@@ -1,7 +1,6 @@
 -- 64 bytes as hex and a line feed fit.
 use Rattle.std.proofs.Common.{arith}
 use Rattle.std.proofs.lemmas.List.{length-append}
-use Rattle.console.specs.Buffers.{hex}
 use Rattle.console.proofs.BufferLaws.{kept_then, kept_new, length-hex}
 use Rattle.console.proofs.carry.hex_line.Goals as goal
 

@@ -1,5 +1,5 @@
 -- A line is carried out by its command, or refused.
-use Rattle.std.proofs.Common.{◌≡◌, ◌-◌, [], ◌∷◌, ◌++◌, take, sym, ap, ◌∙◌, arith, rules}
+use Rattle.std.proofs.Common.{◌≡◌, ◌-◌, [], ◌∷◌, ◌++◌, take, ap, ◌∙◌, arith}
 use Rattle.std.proofs.lemmas.List.{length-take}
 use Rattle.console.specs.Lines.{string_of}
 use Rattle.console.specs.Replies.{line_bits, printed, bits_by, text_by, after, shown, line_feed}

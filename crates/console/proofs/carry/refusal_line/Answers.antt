@@ -1,5 +1,5 @@
 -- Seven pieces, one after the other; they fit.
-use Rattle.std.proofs.Common.{◌≡◌, [], ◌∷◌, ◌++◌, decimal, ap, ◌∙◌, arith}
+use Rattle.std.proofs.Common.{[], ◌∷◌, ◌++◌, decimal, ap, ◌∙◌, arith}
 use Rattle.console.specs.Buffers.{held, kept}
 use Rattle.console.specs.Replies.{refused, line_feed}
 use Rattle.console.proofs.BufferLaws.{kept_then, kept_new, length-refused}

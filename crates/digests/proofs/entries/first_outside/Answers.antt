@@ -1,5 +1,5 @@
 -- The entry at hand lies outside, or the search goes on.
-use Rattle.std.proofs.Common.{◌≡◌, true, false, sym, ◌∙◌, arith}
+use Rattle.std.proofs.Common.{true, false, sym, ◌∙◌, arith}
 use Rattle.digests.proofs.EntryLaws.{outside_at, outside_all}
 use Rattle.digests.proofs.entries.first_outside.Goals as goal
 

@@ -1,5 +1,5 @@
 -- Each entry lies in the buffer; its string is the next that is absorbed.
-use Rattle.std.proofs.Common.{◌≡◌, ◌≤◌, length, ◌∙◌, arith, rules}
+use Rattle.std.proofs.Common.{length, ◌∙◌, arith, rules}
 use Rattle.digests.specs.Digests.{absorbed_by}
 use Rattle.digests.proofs.EntryLaws.{all_inside, absorb_turn, absorb_end}
 use Rattle.digests.proofs.lists.absorb_entries.Goals as goal

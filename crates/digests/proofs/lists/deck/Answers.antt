@@ -1,5 +1,5 @@
 -- All entries lie in the buffer.
-use Rattle.std.proofs.Common.{◌≡◌, length, sym, ap, ◌∙◌}
+use Rattle.std.proofs.Common.{length, ap, ◌∙◌}
 use Rattle.duplex.specs.Strings.{absorbed, blanked, squeezed}
 use Rattle.digests.specs.declared.entries.EntryFault.TheVariants.{Deck}
 use Rattle.digests.specs.Entries.{cuts, answered}

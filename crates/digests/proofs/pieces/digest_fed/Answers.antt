@@ -1,8 +1,8 @@
 -- One call more, and the strings that the calls spell.
-use Rattle.std.proofs.Common.{◌≡◌, [], map, length, sym, ap, ◌∙◌, ap₂}
+use Rattle.std.proofs.Common.{[], length, sym, ap, ◌∙◌, ap₂}
 use Rattle.duplex.specs.Strings.{squeezed}
 use Rattle.digests.specs.Digests.{digested}
-use Rattle.digests.specs.Feeding.{spelled, joined}
+use Rattle.digests.specs.Feeding.{spelled}
 use Rattle.digests.proofs.FeedLaws.{fed, append_call, end_call, calls_end, fed_digest, spelled-piecewise}
 use Rattle.digests.proofs.pieces.digest_fed.Goals as goal
 use Rattle.digests.proofs.pieces.digest_fed.Goals.{in-Append, in-End}

@@ -1,5 +1,5 @@
 -- The counts over any length, and the four that are asked for as cases of them.
-use Rattle.std.proofs.Common.{◌≡◌, ℕ, suc, ◌+◌, ◌*◌, ◌/◌, List, [], ◌∷◌, length, refl, ap, ◌∙◌, arith}
+use Rattle.std.proofs.Common.{◌≡◌, ℕ, ◌+◌, ◌*◌, ◌/◌, List, [], ◌∷◌, length, refl, arith}
 use Rattle.duplex.specs.Strings.{blocks, single_blocks, absorbed, absorbed_unkeyed}
 use Rattle.duplex.proofs.figures.step_counts.Goals as goal
 

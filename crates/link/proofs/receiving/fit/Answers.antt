@@ -1,9 +1,8 @@
 -- What each way out knows of the frame.
-use Rattle.std.proofs.Common.{◌≡◌, ◌+◌, ◌<◌, ◌≤◌, length, sym, ◌∙◌, ap₂, arith, tests}
+use Rattle.std.proofs.Common.{◌≡◌, ◌+◌, length, sym, ◌∙◌, ap₂, arith, tests}
 use Rattle.std.specs.Str.{bytes_eq}
-use Rattle.duplex.specs.Strings.{word_bytes}
 use Rattle.link.specs.Kinds.{text_length}
-use Rattle.link.specs.Frames.{overhead, number_in}
+use Rattle.link.specs.Frames.{overhead}
 use Rattle.link.proofs.Takings.{Fit, fit_is, number_bytes}
 use Rattle.link.proofs.receiving.fit.Goals as goal
 

@@ -1,5 +1,5 @@
 -- The part for the ciphertext has just its length, and the three writes fill the buffer.
-use Rattle.std.proofs.Common.{◌≡◌, ◌+◌, ◌-◌, ◌++◌, length, take, drop, refl, ap, ◌∙◌}
+use Rattle.std.proofs.Common.{◌≡◌, ◌+◌, ◌-◌, ◌++◌, length, take, drop, ap, ◌∙◌}
 use Rattle.session.specs.Sessions.{cipher, tag_of}
 use Rattle.session.proofs.SessionLaws.{length-cipher}
 use Rattle.link.proofs.Writings.{laid, length_part, sealed}

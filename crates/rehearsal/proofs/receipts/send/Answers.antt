@@ -1,6 +1,5 @@
 -- The run so far, and one call more.
 use Rattle.std.proofs.Common.{arith}
-use Rattle.link.specs.Calls.{sending}
 use Rattle.link.specs.Frames.{started}
 use Rattle.rehearsal.specs.Rehearsals.{OneWriting}
 use Rattle.rehearsal.proofs.Loops.{going_starts, going_on, going_ends}

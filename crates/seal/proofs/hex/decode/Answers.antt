@@ -1,5 +1,5 @@
 -- A pair of digits more, and the end.
-use Rattle.std.proofs.Common.{◌+◌, ◌*◌, ◌++◌, sym, ◌∙◌, ap₂, arith}
+use Rattle.std.proofs.Common.{◌*◌, ◌++◌, sym, ◌∙◌, ap₂, arith}
 use Rattle.std.proofs.lemmas.List.{append-nil, take_all, drop_all}
 use Rattle.seal.specs.Hex.{unhex}
 use Rattle.seal.proofs.HexLaws.{unhex_more}

@@ -1,5 +1,5 @@
 -- What is left of the string, from the bits so far, gives the bytes and the bits that the whole gave from the start.
-use Rattle.std.proofs.Common.{◌≡◌, ◌-◌, ◌≤◌, length}
+use Rattle.std.proofs.Common.{◌-◌, ◌≤◌, length}
 use Rattle.duplex.specs.Strings.{absorbed}
 use Rattle.strings.proofs.Blocks.{crypted, text_of, Leads}
 use Rattle.strings.proofs.Duplex.crypt.Given as goal

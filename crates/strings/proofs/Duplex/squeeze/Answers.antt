@@ -1,5 +1,5 @@
 -- The turn and the end, at the bits of the engine.
-use Rattle.std.proofs.Common.{◌-◌, ◌<◌, ◌≤◌, length, arith}
+use Rattle.std.proofs.Common.{length, arith}
 use Rattle.strings.proofs.Readings.{squeeze_turn, squeeze_end}
 use Rattle.strings.proofs.Duplex.squeeze.Goals as goal
 

@@ -1,5 +1,5 @@
 -- One byte more, and the end of the text.
-use Rattle.std.proofs.Common.{sym, ◌∙◌, arith}
+use Rattle.std.proofs.Common.{sym, arith}
 use Rattle.wording.proofs.RunLaws.{run_more, run_ends, run_all}
 use Rattle.wording.proofs.runs.before.Goals as goal
 

@@ -1,5 +1,5 @@
 -- The last digit, after the others where there are some.
-use Rattle.std.proofs.Common.{◌≡◌, ◌+◌, ◌%◌, [], ◌∷◌, ap, ◌∙◌, arith}
+use Rattle.std.proofs.Common.{◌+◌, ◌%◌, [], ◌∷◌, ap, ◌∙◌}
 use Rattle.console.specs.Buffers.{held, kept}
 use Rattle.console.proofs.BufferLaws.{last_digit, one_digit}
 use Rattle.console.proofs.buffer.Buffer.+extend_decimal.Goals as goal

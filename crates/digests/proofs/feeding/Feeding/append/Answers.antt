@@ -1,5 +1,5 @@
 -- A byte more, and the end.
-use Rattle.std.proofs.Common.{◌≡◌, sym, ap, ◌∙◌}
+use Rattle.std.proofs.Common.{sym, ◌∙◌}
 use Rattle.digests.proofs.FeedLaws.{append_turn, append_end, begun_turn, begun_end}
 use Rattle.digests.proofs.feeding.Feeding.append.Goals as goal
 

@@ -1,5 +1,5 @@
 -- Eight empty steps after the last end.
-use Rattle.std.proofs.Common.{◌≡◌, ap, ◌∙◌}
+use Rattle.std.proofs.Common.{ap, ◌∙◌}
 use Rattle.duplex.specs.Strings.{blanked}
 use Rattle.digests.specs.Feeding.{finished}
 use Rattle.digests.proofs.feeding.Feeding.finish.Goals as goal

@@ -1,5 +1,5 @@
 -- The session's bits, and 0.
-use Rattle.link.specs.Frames.{Standing, started}
+use Rattle.link.specs.Frames.{started}
 use Rattle.link.proofs.receiving.ReceivingEnd.begin.Goals as goal
 
 pub returns : goal.returns

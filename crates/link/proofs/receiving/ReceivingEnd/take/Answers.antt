@@ -1,12 +1,12 @@
 -- The ways out of a taking: by a check, by the tag, and with the text.
-use Rattle.std.proofs.Common.{◌≡◌, ◌+◌, ◌-◌, ◌≤◌, ◌++◌, length, take, drop, Ok, Err, sym, ap, ◌∙◌, ap₂, arith}
+use Rattle.std.proofs.Common.{◌≡◌, ◌+◌, ◌-◌, ◌++◌, length, take, drop, Err, sym, ap, ◌∙◌, ap₂, arith}
 use Rattle.std.proofs.lemmas.List.{length-take, length-drop}
 use Rattle.std.proofs.lemmas.Result.{err_from_is_err_and}
 use Rattle.session.specs.Sessions.{plain, after}
 use Rattle.session.specs.Calls.{open_out}
 use Rattle.link.specs.declared.fault.LinkFault.TheVariants.{Session}
-use Rattle.link.specs.Frames.{Standing, header_in, body_in, text_in}
-use Rattle.link.specs.Calls.{checked, receiving, take_standing, take_text}
+use Rattle.link.specs.Frames.{header_in}
+use Rattle.link.specs.Calls.{receiving, take_standing, take_text}
 use Rattle.link.proofs.Takings.{passes, quiet, answer_err, took_ok, took_tag, zeroed, body_is, tag_is}
 use Rattle.link.proofs.receiving.ReceivingEnd.take.Goals as goal
 

@@ -1,9 +1,9 @@
 -- The ways out of a writing: by a check, and with the frame; the sealing itself never refuses.
-use Rattle.std.proofs.Common.{◌≡◌, ℕ, ◌+◌, ◌-◌, ◌++◌, length, drop, Ok, Err, sym, ap, ◌∙◌, ap₂, arith}
+use Rattle.std.proofs.Common.{◌≡◌, ◌+◌, ◌-◌, ◌++◌, length, drop, Ok, ap, ◌∙◌, ap₂, arith}
 use native.Mathlib.Nat.{sub-zero}
 use Rattle.session.specs.Sessions.{cipher, tag_of, after}
 use Rattle.link.specs.Kinds.{kind_byte, text_length}
-use Rattle.link.specs.Frames.{Standing, overhead, associated}
+use Rattle.link.specs.Frames.{overhead, associated}
 use Rattle.link.specs.Sender.{frame_of, next_of}
 use Rattle.link.specs.Calls.{sending, vetted, wrote_pair, wrote_standing, wrote_out}
 use Rattle.link.proofs.Writings.{readied}

@@ -3,7 +3,7 @@ use Rattle.std.proofs.Common.{◌≡◌, ℕ, ◌*◌, ◌%◌, ◌<◌, length,
 use lib.Bits.{bit_xor, xor_zero_l}
 use Rattle.std.proofs.lemmas.List.Edits.{fill_by_more}
 use Rattle.std.proofs.lemmas.List.{get_or-set_other, get_or-replicate}
-use Rattle.duplex.specs.State.{at, pi, pi_bit}
+use Rattle.duplex.specs.State.{pi, pi_bit}
 use Rattle.duplex.proofs.StateLaws.{state_all}
 use Rattle.words.specs.Packing.{cells}
 use Rattle.words.specs.ModLaws.{sum_mod}
