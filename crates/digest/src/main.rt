@@ -5,6 +5,7 @@ use anyhow::anyhow;
 use std::env;
 use std::env::Args;
 use std::io::{BufWriter, Write};
+use std::process::ExitCode;
 use std::rt::Stdout;
 
 mod hex;
@@ -93,10 +94,12 @@ fn start(rt: &HostRuntime) -> anyhow::Result<()> {
     done
 }
 
-fn main(rt: HostRuntime) -> anyhow::Result<()> {
-    let done = start(&rt);
-    if let Err(error) = &done {
-        eprintln!(rt; "digest: {error}")?;
+fn main(rt: HostRuntime) -> ExitCode {
+    match start(&rt) {
+        Ok(()) => ExitCode::SUCCESS,
+        Err(error) => {
+            let _ = eprintln!(rt; "digest: {error}");
+            ExitCode::FAILURE
+        }
     }
-    done
 }

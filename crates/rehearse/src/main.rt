@@ -8,6 +8,7 @@ use postponed::Postponed;
 use session::{Key, Nonce};
 use std::env::Args;
 use std::io::{BufWriter, Read, Write};
+use std::process::ExitCode;
 use std::{env, fs};
 use words::Packed;
 
@@ -129,10 +130,12 @@ fn start(rt: &HostRuntime) -> anyhow::Result<()> {
     done
 }
 
-fn main(rt: HostRuntime) -> anyhow::Result<()> {
-    let done = start(&rt);
-    if let Err(error) = &done {
-        eprintln!(rt; "rehearse: {error}")?;
+fn main(rt: HostRuntime) -> ExitCode {
+    match start(&rt) {
+        Ok(()) => ExitCode::SUCCESS,
+        Err(error) => {
+            let _ = eprintln!(rt; "rehearse: {error}");
+            ExitCode::FAILURE
+        }
     }
-    done
 }
