@@ -3,7 +3,6 @@
 
 ghost use Rattle.std.specs.Prelude.{◌≡◌, ℕ, ◌<◌, length, slice_index};
 ghost use Rattle.duplex.specs.State.{inject, position};
-ghost use Rattle.std.proofs.Common.{rules, arith};
 
 mod round;
 
@@ -38,7 +37,7 @@ fn add_block(cells: &mut [u8; 257], block: u64)
 impl Engine for Plain {
     ghost bits = { λ e. e.cells };
 
-    ghost means = { first_of (Prim.search rules, Prim.grind (arith, Self.row.coded.inj)) };
+    ghost means = { λ e. record { width = e.width; bits = e.binary } };
 
     fn new() -> Plain {
         Plain { cells: [0u8; 257] }
