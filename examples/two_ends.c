@@ -1,7 +1,7 @@
 /* A panel and a head: frames of every kind pass between a sending and a receiving end. One is damaged on the way, one
  * is handed over twice, and one comes too early; after each the link goes on with the frame that is due.
  *
- *     gcc -std=c99 -Iinclude examples/two_ends.c target/staticlib/libcowslip.a -o target/two_ends
+ *     gcc -std=c99 -Iinclude examples/two_ends.c crates/cowslip/out/libcowslip.a -o target/two_ends
  *
  * It prints what happens, and ends with status 1 as soon as a call answers something unexpected. */
 

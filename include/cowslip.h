@@ -1,6 +1,6 @@
 /* The C interface of Cowslipdado: digests, sessions and the two ends of a link, in lent memory.
  *
- * Link target/staticlib/libcowslip.a, which `rt staticlib cowslip` proves and writes. docs/C.md has the page about
+ * Link crates/cowslip/out/libcowslip.a, which `rt lib` in crates/cowslip proves and writes. docs/C.md has the page about
  * building, docs/SUITE.md, SESSION.md, LINK.md and DIGEST.md have the rules that these functions follow, and
  * docs/REFUSALS.md has the refusals.
  *
