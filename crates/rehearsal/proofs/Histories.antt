@@ -10,7 +10,7 @@ use Rattle.link.proofs.Suite.{kind_byte_of, wrote, fed_next, accepted_is, accept
 use Rattle.rehearsal.specs.declared.replies.Ask.{Ask}
 use Rattle.rehearsal.specs.declared.replies.Reply.{Reply}
 use Rattle.rehearsal.specs.declared.replies.Exchange.{Exchange}
-use Rattle.rehearsal.specs.Law.{Call, Answer, count, Due, Heard, kept, spoken, accepted, Writing, Written, Owed, Sent, frames}
+use Rattle.rehearsal.specs.Law.{Call, Answer, count, Due, Heard, kept, spoken, handed, accepted, Writing, Written, Owed, Sent, frames}
 use Rattle.rehearsal.specs.Law.Call.{take_frame, tell}
 use Rattle.rehearsal.specs.Law.Answer.{taken, refused, told}
 use Rattle.rehearsal.specs.Law.Due.{accepts, refuses, tells}
@@ -125,6 +125,20 @@ pub together : {m m₁ m₂ : Standing} {n k n₁ n₂ : ℕ} {cs : List Call} {
 together {m} {m₁} z h s e =
     let t = subst (λ fs. Trail m fs m₁) e (trail_heard h) in
     (trail_one refl t (trail_sent s), let n = trail_number t in omega arith, let n = trail_number (trail_sent s) in omega arith)
+
+-- What the suite's sender could write, one frame after the other, is accepted.
+
+all_accepted : {m p m₁ m₂ : Standing} {n n₁ : ℕ} {cs : List Call} {rs : List Answer} → m ≡ p → Heard m n cs rs m₁ n₁ → Trail p (handed cs) m₂ → accepted cs rs ≡ handed cs
+all_accepted e silent here = refl
+all_accepted {m} {p} e (heard (accepts {f} k t w u) h) (on c v x i) =
+    let o = only m (kind_byte k) c t v f w (rw e x) in
+    let next : fed m (kind_byte k) t ≡ fed p c v = cc in
+    ap (λ fs. f ∷ fs) (all_accepted next h i)
+all_accepted e (heard (refuses w) h) (on c v x i) = absurd (w (c, v, rw e x))
+all_accepted e (heard tells h) i = all_accepted e h i
+
+pub delivered : {m m₁ m₂ : Standing} {n k n₁ n₂ : ℕ} {cs : List Call} {rs : List Answer} {ws : List Writing} {vs : List Written} → Heard m n cs rs m₁ n₁ → Sent m k ws vs m₂ n₂ → handed cs ≡ frames vs → accepted cs rs ≡ frames vs
+delivered {m} {m₂ = z} h s e = all_accepted refl h (subst (λ fs. Trail m fs z) (sym e) (trail_sent s)) ∙ e
 
 pub started_zero : (key nonce : List ℕ) → (started key nonce).number ≡ 0
 unfolding started

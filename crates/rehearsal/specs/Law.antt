@@ -76,6 +76,12 @@ accepted [] rs = []
 accepted (c ∷ cs) [] = []
 accepted (c ∷ cs) (a ∷ rs) = with_frame a c (accepted cs rs)
 
+-- the frames of a list of calls
+abbrev pub handed : List Call → List (List ℕ)
+handed [] = []
+handed (take_frame f ∷ cs) = f ∷ handed cs
+handed (tell ∷ cs) = handed cs
+
 -- A sending end.
 
 -- A call: the writing of a text as a kind into a buffer, or a telling.

@@ -11,7 +11,7 @@ use Rattle.rehearsal.specs.declared.receipts.Order.{Order}
 use Rattle.rehearsal.specs.declared.receipts.Receipt.{Receipt}
 use Rattle.rehearsal.specs.declared.receipts.Dispatch.{Dispatch}
 use Rattle.rehearsal.specs.Law as law
-use Rattle.rehearsal.specs.Law.{Heard, kept, spoken, accepted, Sent, frames}
+use Rattle.rehearsal.specs.Law.{Heard, kept, spoken, handed, accepted, Sent, frames}
 
 -- An exchange in the words of the law: what was asked, and what was answered. The text stands at the front of the buffer.
 
@@ -130,3 +130,7 @@ pub record Agreed (key nonce : List ℕ) (calls calls' again again' : List Excha
   -- where the accepted frames are all the written ones, both ends stand together and tell their count
   pub together : Roomy calls → accepted (map asked calls) (map said calls') ≡ frames (map done orders')
       → (first ≡ sender) × (first.number ≡ length (frames (map done orders'))) × (sender.number ≡ length (frames (map done orders')))
+
+-- Handed just the written frames, in their order, the receiving end accepts them all.
+abbrev pub Delivered : List Exchange → List Exchange → List Dispatch → Type 0
+Delivered calls calls' orders' = Roomy calls → handed (map asked calls) ≡ frames (map done orders') → accepted (map asked calls) (map said calls') ≡ frames (map done orders')

@@ -2,7 +2,7 @@
 #![tactic(auto)]
 
 ghost use Rattle.link.specs.Calls.{receiving, sending};
-ghost use Rattle.rehearsal.specs.Rehearsals.{Agreed};
+ghost use Rattle.rehearsal.specs.Rehearsals.{Agreed, Delivered};
 
 use crate::receipts::send;
 use crate::replies::receive;
@@ -32,7 +32,8 @@ pub fn rehearse<R: Engine + Drop, S: Engine + Drop, W: Engine + Drop>(
     again: &mut [Exchange],
     orders: &mut [Dispatch],
 ) -> Ends<R, S, W>
-    ensures { Agreed key.now.bytes nonce.now.bytes calls.old calls.new again.old again.new orders.old orders.new (receiving R.Engine.bits result.first) (receiving S.Engine.bits result.second) (sending W.Engine.bits result.sender) }
+    ensures law { Agreed key.now.bytes nonce.now.bytes calls.old calls.new again.old again.new orders.old orders.new (receiving R.Engine.bits result.first) (receiving S.Engine.bits result.second) (sending W.Engine.bits result.sender) }
+    ensures delivered { Delivered calls.old calls.new orders.new }
 {
     let first = receive(key, nonce, calls);
     let second = receive(key, nonce, again);

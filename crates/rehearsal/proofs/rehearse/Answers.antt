@@ -4,8 +4,8 @@ use Rattle.link.specs.Frames.{Standing, started}
 use Rattle.rehearsal.specs.declared.replies.Exchange.{Exchange}
 use Rattle.rehearsal.specs.declared.receipts.Dispatch.{Dispatch}
 use Rattle.rehearsal.specs.Law.{Call, Heard, Sent}
-use Rattle.rehearsal.specs.Rehearsals.{asked, said, ordered, done, Roomy, OneTaking, OneWriting, Along, Agreed}
-use Rattle.rehearsal.proofs.Histories.{heard_along, pruned, determined, together, started_zero}
+use Rattle.rehearsal.specs.Rehearsals.{asked, said, ordered, done, Roomy, OneTaking, OneWriting, Along, Agreed, Delivered}
+use Rattle.rehearsal.proofs.Histories.{heard_along, pruned, determined, delivered, together, started_zero}
 use Rattle.rehearsal.proofs.Owing.{sent_along}
 use Rattle.rehearsal.proofs.rehearse.Goals as goal
 
@@ -33,5 +33,12 @@ module _ (key nonce : List ℕ) where
         together = λ room e. together (started_zero key nonce) (heard_all calls calls' first a room) (sent_all orders orders' sender w) e;
       }
 
+  handed_all : (calls calls' : List Exchange) (orders orders' : List Dispatch) (first sender : Standing)
+      → Along OneTaking (started key nonce) calls calls' first → Along OneWriting (started key nonce) orders orders' sender → Delivered calls calls' orders'
+  handed_all calls calls' orders orders' first sender a w room e = delivered (heard_all calls calls' first a room) (sent_all orders orders' sender w) e
+
 pub returns : goal.returns
-returns g c = agreed _ _ _ _ _ _ _ _ _ _ _ c.receive-first.ensures c.receive-second.ensures c.send-sender.ensures
+returns g c = record {
+  law = agreed _ _ _ _ _ _ _ _ _ _ _ c.receive-first.ensures c.receive-second.ensures c.send-sender.ensures;
+  delivered = handed_all _ _ _ _ _ _ _ _ c.receive-first.ensures c.send-sender.ensures;
+}
