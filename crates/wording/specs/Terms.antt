@@ -1,5 +1,5 @@
 -- The words of a script: hex digits and the names of the kinds.
-use Rattle.std.specs.Prelude.{ℕ, ◌+◌, ◌*◌, ◌%◌, cond, ◌&&◌, List, [], ◌∷◌, length, is_some, Some, None, codes, Option, ◌==◌}
+use Rattle.std.specs.Prelude.{◌≡◌, ℕ, ◌+◌, ◌*◌, ◌%◌, cond, ◌&&◌, List, [], ◌∷◌, length, is_some, Some, None, codes, Option, ◌==◌}
 use Rattle.std.specs.Option.{option_or}
 use Rattle.std.specs.Str.{bytes_eq}
 use Rattle.link.specs.declared.kind.Kind.{Kind}
@@ -40,3 +40,7 @@ byte_named word =
     (else_byte word ZoneName
     (else_byte word Heartbeat
     (two_digits word))))))
+
+-- the name of every kind stands for its byte
+abbrev pub NamesReadBack : Type 0
+NamesReadBack = (kind : Kind) → byte_named (name_of kind) ≡ Some (kind_byte kind)

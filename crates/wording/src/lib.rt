@@ -5,4 +5,4 @@ mod runs;
 mod terms;
 
 pub use runs::{Stop, before};
-pub use terms::{bad_place, decode, kind_byte, kind_name};
+pub use terms::{bad_place, decode, kind_byte, kind_name, names_read_back};

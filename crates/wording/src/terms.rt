@@ -2,7 +2,7 @@
 ghost use Rattle.std.specs.Prelude.{◌≡◌, ◌<◌, IfOk};
 ghost use Rattle.std.specs.Str.{bytes_eq};
 ghost use Rattle.console.specs.Lines.{hex_value, digit_value, unhex};
-ghost use Rattle.wording.specs.Terms.{bad_hex, name_of, two_digits, byte_named};
+ghost use Rattle.wording.specs.Terms.{bad_hex, name_of, two_digits, byte_named, NamesReadBack};
 
 use link::Kind;
 use std::alloc::{AllocError, Global};
@@ -105,3 +105,8 @@ pub fn kind_byte(word: &[u8]) -> Option<u8>
         byte_of(word)
     }
 }
+
+// The name of every kind stands for its byte.
+pub fn names_read_back()
+    ensures { NamesReadBack }
+{}
