@@ -1,7 +1,7 @@
 -- What a good line has: at most 130 bytes, and a count of at most 64.
 use Rattle.std.proofs.Common.{◌≡◌, ℕ, ◌+◌, ◌-◌, ◌*◌, ◌≤◌, Bool, true, false, cond, ◌&&◌, eqb, ltb, leb, List, [], ◌∷◌, length, Some, None, Ok, Err, Option, Result, sym, subst, arith}
 use Rattle.std.proofs.lemmas.Bool.{cond_both, leb-true, ltb-false}
-use Rattle.hex.specs.Digits.{char_of, is_decimal}
+use Rattle.digits.specs.Digits.{char_of, is_decimal}
 use Rattle.commands.specs.declared.terms.Command.{Command}
 use Rattle.commands.specs.declared.terms.Command.TheVariants.{Zero, Absorb, AbsorbUnkeyed, Encrypt, Decrypt, Blank, Squeeze}
 use Rattle.commands.specs.declared.terms.Fault.{Fault}
