@@ -1,5 +1,5 @@
 -- No digits, or their first bad place.
-use Rattle.std.proofs.Common.{ap, ◌∙◌, arith, rules, ltb-false, ltb-true}
+use Rattle.std.proofs.Common.{arith, rules}
 use Rattle.digits.specs.declared.single.Letters.TheVariants.{Lower}
 use Rattle.digits.proofs.HexLaws.{bad_within}
 use Rattle.commands.proofs.LineLaws.{column_of, column_none}
