@@ -1,11 +1,11 @@
 -- What a good line has: at most 130 bytes, and a count of at most 64.
-use Rattle.std.proofs.Common.{◌≡◌, ℕ, ◌+◌, ◌-◌, ◌*◌, ◌≤◌, Bool, true, false, cond, ◌&&◌, eqb, ltb, leb, List, [], ◌∷◌, length, Some, None, Ok, Err, Option, Result, sym, subst, arith}
-use Rattle.std.proofs.lemmas.Bool.{cond_both, leb-true, ltb-false}
-use Rattle.hex.specs.Digits.{char_of, is_decimal}
+use Rattle.std.proofs.Common.{◌≡◌, ℕ, ◌+◌, ◌-◌, ◌*◌, ◌≤◌, Bool, cond, ◌&&◌, eqb, ltb, leb, List, [], ◌∷◌, length, Some, None, Ok, Err, Option, Result, sym, subst}
+use Rattle.std.proofs.lemmas.Bool.{cond_both, leb-true}
+use Rattle.digits.specs.Digits.{char_of, is_decimal}
 use Rattle.commands.specs.declared.terms.Command.{Command}
 use Rattle.commands.specs.declared.terms.Command.TheVariants.{Zero, Absorb, AbsorbUnkeyed, Encrypt, Decrypt, Blank, Squeeze}
 use Rattle.commands.specs.declared.terms.Fault.{Fault}
-use Rattle.commands.specs.declared.terms.Fault.TheVariants.{Letter, Byte, Hex, Count, Length}
+use Rattle.commands.specs.declared.terms.Fault.TheVariants.{Byte, Count, Length}
 use Rattle.commands.specs.Lines.{hex_fault, unless, with_string, up_to_64, count_digits, with_count, counting, alone, by_letter, short_line, parsed, Within}
 
 -- P of a good answer

@@ -1,10 +1,10 @@
 -- Laws of the lines: a line by its first byte and the rest, as the code takes it apart.
-use Rattle.std.proofs.Common.{◌≡◌, ℕ, ◌+◌, ◌-◌, ◌<◌, ◌≤◌, cond, eqb, List, ◌∷◌, length, get_or, take, drop, Some, Err, Option, sym, ap, ◌∙◌, arith}
+use Rattle.std.proofs.Common.{◌≡◌, ℕ, ◌+◌, ◌-◌, ◌<◌, ◌≤◌, cond, eqb, List, ◌∷◌, length, get_or, take, drop, Some, Err, Option, sym, ap, ◌∙◌}
 use Rattle.std.specs.Option.{option_map}
 use Rattle.std.proofs.lemmas.Slice.{first_rest}
 use Rattle.std.proofs.lemmas.Bool.{le-ltb, ne_eqb, eq-eqb}
-use Rattle.hex.specs.declared.digits.Letters.TheVariants.{Lower}
-use Rattle.hex.specs.Digits.{bad_hex}
+use Rattle.digits.specs.declared.single.Letters.TheVariants.{Lower}
+use Rattle.digits.specs.Digits.{bad_hex}
 use Rattle.commands.specs.declared.terms.Command.{Command}
 use Rattle.commands.specs.declared.terms.Fault.TheVariants.{Byte, Length}
 use Rattle.commands.specs.Lines.{hex_fault, unless, with_string, count_digits, with_count, by_letter, parsed}

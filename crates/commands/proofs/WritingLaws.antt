@@ -1,14 +1,14 @@
 -- What is written as a line is read back: strings and counts.
-use Rattle.std.proofs.Common.{◌≡◌, ℕ, ◌+◌, ◌<◌, ◌≤◌, Bool, true, false, cond, ◌&&◌, eqb, leb, List, [], ◌∷◌, length, get_or, Some, None, Ok, Err, decimal, Result, sym, refl, ap, ◌∙◌, ap₂, arith}
+use Rattle.std.proofs.Common.{◌≡◌, ℕ, ◌+◌, ◌<◌, ◌≤◌, Bool, true, false, cond, ◌&&◌, eqb, leb, List, ◌∷◌, length, get_or, Some, None, Ok, Err, decimal, Result, sym, refl, ap, ◌∙◌, ap₂, arith}
 use Rattle.std.specs.List.{range_with_len}
 use Rattle.std.specs.Option.{option_map}
 use Rattle.std.specs.Fmt.{digits}
 use Rattle.std.proofs.lemmas.List.FromFn.{get_or-range_with_len}
 use Rattle.std.proofs.lemmas.Bool.{eqb-true, leb-true, and_parts, le-ltb, ne_eqb, both_ways}
 use Rattle.duplex.proofs.Tables.{every, every_at}
-use Rattle.hex.specs.declared.digits.Letters.TheVariants.{Lower}
-use Rattle.hex.specs.Pairs.{hex, unhex}
-use Rattle.hex.proofs.HexLaws.{length-hex, sound-hex, unhex-hex}
+use Rattle.digits.specs.declared.single.Letters.TheVariants.{Lower}
+use Rattle.digits.specs.Pairs.{hex, unhex}
+use Rattle.digits.proofs.HexLaws.{length-hex, sound-hex, unhex-hex}
 use Rattle.commands.specs.declared.terms.Command.{Command}
 use Rattle.commands.specs.declared.terms.Fault.{Fault}
 use Rattle.commands.specs.declared.terms.Fault.TheVariants.{Length}

@@ -1,9 +1,9 @@
 -- The lines of the bench: what a line asks for, or why it is refused.
 use Rattle.std.specs.Prelude.{ℕ, ◌+◌, ◌-◌, ◌*◌, ◌≤◌, cond, ◌&&◌, List, [], ◌∷◌, length, drop, Some, None, Ok, Err, Option, Result, ◌==◌, nat_le, nat_lt}
 use Rattle.std.specs.Option.{option_map}
-use Rattle.hex.specs.declared.digits.Letters.TheVariants.{Lower}
-use Rattle.hex.specs.Digits.{char_of, is_decimal, bad_hex}
-use Rattle.hex.specs.Pairs.{unhex}
+use Rattle.digits.specs.declared.single.Letters.TheVariants.{Lower}
+use Rattle.digits.specs.Digits.{char_of, is_decimal, bad_hex}
+use Rattle.digits.specs.Pairs.{unhex}
 use Rattle.commands.specs.declared.terms.Command.{Command}
 use Rattle.commands.specs.declared.terms.Command.TheVariants.{Zero, Absorb, AbsorbUnkeyed, Encrypt, Decrypt, Blank, Squeeze}
 use Rattle.commands.specs.declared.terms.Fault.{Fault}

@@ -3,7 +3,7 @@ use Rattle.std.specs.Prelude.{◌≡◌, ℕ, ◌<◌, ◌≤◌, Bool, true, fa
 use Prim.Native.String.{String}
 use Rattle.commands.specs.declared.terms.Command.{Command}
 use Rattle.commands.specs.declared.terms.Command.TheVariants.{Zero, Absorb, AbsorbUnkeyed, Encrypt, Decrypt, Blank, Squeeze}
-use Rattle.hex.specs.Pairs.{hex}
+use Rattle.digits.specs.Pairs.{hex}
 use Rattle.commands.specs.Lines.{parsed, string_of, Within}
 
 -- the letter alone for the empty string, else a blank and the hex digits

@@ -1,4 +1,6 @@
 // The commands of the bench: which command a line is, or why it is none.
+#![tactic(auto)]
+
 ghost use Rattle.commands.specs.Writing.{ReadsBack};
 
 mod reading;

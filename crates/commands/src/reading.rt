@@ -3,7 +3,7 @@ ghost use Rattle.std.specs.Prelude.{◌≡◌};
 ghost use Rattle.commands.specs.Lines.{parsed, with_string, with_count, count_digits, by_letter, alone, hex_fault};
 
 use crate::terms::{Command, Fault};
-use hex::{Letters, bad_place};
+use digits::{Letters, bad_place};
 
 // The longest line that is not refused for its length.
 const LONGEST: usize = 130;

@@ -1,4 +1,6 @@
 // A program for measuring: something that the library does, again and again, on any engine.
+#![tactic(auto)]
+
 mod run;
 mod work;
 mod works;
@@ -10,8 +12,8 @@ use plain::Plain;
 use postponed::Postponed;
 use run::{Task, perform};
 use session::Session;
-use std::env;
-use std::env::Args;
+use std::env::{self, Args};
+use std::process::ExitCode;
 use wording::kind_byte;
 use words::Packed;
 
@@ -50,7 +52,7 @@ fn read_kind(args: &mut Args) -> anyhow::Result<Kind> {
         return Err(anyhow!("no KIND; try --help"));
     };
     match kind_byte(word.as_bytes()) {
-        Some(byte) => Kind::of(byte).ok_or("no such KIND; try --help".into()),
+        Some(byte) => Kind::of(byte).ok_or(anyhow!("no such KIND; try --help")),
         None => Err(anyhow!("no such KIND; try --help")),
     }
 }
@@ -142,10 +144,12 @@ fn start(rt: &HostRuntime) -> anyhow::Result<()> {
     }
 }
 
-fn main(rt: HostRuntime) -> anyhow::Result<()> {
-    let done = start(&rt);
-    if let Err(error) = &done {
-        eprintln!(rt; "load: {error}")?;
+fn main(rt: HostRuntime) -> ExitCode {
+    match start(&rt) {
+        Ok(()) => ExitCode::SUCCESS,
+        Err(error) => {
+            let _ = eprintln!(rt; "load: {error}");
+            ExitCode::FAILURE
+        }
     }
-    done
 }

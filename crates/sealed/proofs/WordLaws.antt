@@ -1,9 +1,9 @@
 -- Digits that write a key.
-use Rattle.std.proofs.Common.{◌≡◌, ℕ, Bool, true, false, cond, eqb, List, length, is_some, Some, None, Ok, Option, sym, refl, ap, ◌∙◌, ap₂, arith}
+use Rattle.std.proofs.Common.{◌≡◌, ℕ, Bool, true, false, cond, eqb, List, length, is_some, Some, None, Ok, Option, sym, refl, ap, ◌∙◌, arith}
 use Rattle.std.specs.Option.{option_or}
 use Rattle.std.proofs.lemmas.Bool.{eqb-true, true≢false}
-use Rattle.hex.specs.Pairs.{unhex, laid}
-use Rattle.hex.proofs.HexLaws.{laid_whole, length-unhex}
+use Rattle.digits.specs.Pairs.{unhex, laid}
+use Rattle.digits.proofs.HexLaws.{laid_whole, length-unhex}
 use Rattle.sealed.specs.declared.fault.HexFault.{HexFault}
 use Rattle.sealed.specs.declared.fault.HexFault.TheVariants.{Count}
 use Rattle.sealed.specs.Words.{hex_fault, key_fault, by_fault}

@@ -1,9 +1,9 @@
 -- Words of hex digits: the bytes that they write, and what spoils them.
 use Rattle.std.specs.Prelude.{◌≡◌, ℕ, ◌+◌, cond, List, length, Some, None, Ok, Err, Option, Result, ◌==◌, nat_lt}
 use Rattle.std.specs.Option.{option_or}
-use Rattle.hex.specs.declared.digits.Letters.TheVariants.{Either}
-use Rattle.hex.specs.Digits.{bad_hex}
-use Rattle.hex.specs.Pairs.{unhex}
+use Rattle.digits.specs.declared.single.Letters.TheVariants.{Either}
+use Rattle.digits.specs.Digits.{bad_hex}
+use Rattle.digits.specs.Pairs.{unhex}
 use Rattle.sealed.specs.declared.fault.HexFault.{HexFault}
 use Rattle.sealed.specs.declared.fault.HexFault.TheVariants.{Digit, Odd, Count}
 use Rattle.sealed.specs.declared.fault.WordFault.{WordFault}

@@ -1,4 +1,6 @@
 // Sealed bytes, a ciphertext and its tag after it, and the hex words that a key, a nonce and associated data are written as.
+#![tactic(auto)]
+
 mod bytes;
 mod fault;
 mod words;

@@ -1,10 +1,10 @@
 // Words of hex digits.
 ghost use Rattle.std.specs.Prelude.{◌≡◌, MatchResult};
-ghost use Rattle.hex.specs.Pairs.{unhex};
+ghost use Rattle.digits.specs.Pairs.{unhex};
 ghost use Rattle.sealed.specs.Words.{hex_fault, key_fault, by_fault, Decoded, NotDecoded};
 
 use crate::fault::{HexFault, WordFault};
-use hex::{Letters, bad_place, bytes, decode};
+use digits::{Letters, bad_place, bytes, decode};
 use std::alloc::Global;
 
 // What spoils digits that are to write bytes.

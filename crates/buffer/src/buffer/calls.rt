@@ -1,10 +1,10 @@
 // Writing into a buffer. What does not fit is dropped.
 ghost use Rattle.std.specs.Prelude.{◌≡◌, [], ◌∷◌, length, decimal, ◌==◌};
-ghost use Rattle.hex.specs.Pairs.{hex};
+ghost use Rattle.digits.specs.Pairs.{hex};
 ghost use Rattle.buffer.specs.Buffers.{held, kept};
 
 use super::Buffer;
-use hex::hex_digit;
+use digits::hex_digit;
 
 const ROOM: usize = 131;
 

@@ -1,12 +1,12 @@
 -- Each command by its letter, and its string or count.
-use Rattle.std.proofs.Common.{◌≡◌, ℕ, ◌+◌, ◌<◌, ◌≤◌, true, false, List, [], ◌∷◌, length, Ok, decimal, refl, ap, ◌∙◌, arith}
+use Rattle.std.proofs.Common.{◌≡◌, ℕ, ◌≤◌, true, false, List, [], ◌∷◌, Ok, decimal, refl, ap, ◌∙◌, arith}
 use Rattle.std.proofs.lemmas.Bool.{both_ways}
 use Rattle.commands.specs.declared.terms.Command.{Command}
 use Rattle.commands.specs.declared.terms.Command.TheVariants.{Zero, Absorb, AbsorbUnkeyed, Encrypt, Decrypt, Blank, Squeeze}
-use Rattle.hex.specs.Pairs.{hex}
+use Rattle.digits.specs.Pairs.{hex}
 use Rattle.commands.specs.Lines.{parsed, by_letter, with_string, with_count, counting, string_of, Within}
-use Rattle.commands.specs.Writing.{string_line, line_of, takes_string, ShortString}
-use Rattle.hex.proofs.HexLaws.{length-hex}
+use Rattle.commands.specs.Writing.{line_of, takes_string, ShortString}
+use Rattle.digits.proofs.HexLaws.{length-hex}
 use Rattle.commands.proofs.WritingLaws.{string_follows, short_enough, string_back, count_back}
 use Rattle.commands.proofs.lines_read_back.Goals as goal
 

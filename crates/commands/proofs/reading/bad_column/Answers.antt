@@ -1,7 +1,7 @@
 -- No digits, or their first bad place.
-use Rattle.std.proofs.Common.{ap, ◌∙◌, arith, rules, ltb-false, ltb-true}
-use Rattle.hex.specs.declared.digits.Letters.TheVariants.{Lower}
-use Rattle.hex.proofs.HexLaws.{bad_within}
+use Rattle.std.proofs.Common.{arith, rules}
+use Rattle.digits.specs.declared.single.Letters.TheVariants.{Lower}
+use Rattle.digits.proofs.HexLaws.{bad_within}
 use Rattle.commands.proofs.LineLaws.{column_of, column_none}
 use Rattle.commands.proofs.reading.bad_column.Goals as goal
 

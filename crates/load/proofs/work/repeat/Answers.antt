@@ -1,5 +1,5 @@
 -- One turn more.
-use Rattle.std.proofs.Common.{◌≡◌, ℕ, suc, ◌+◌, sym, refl, subst, add-one, arith}
+use Rattle.std.proofs.Common.{◌≡◌, ℕ, ◌+◌, sym, refl, subst, add-one, arith}
 use Rattle.load.specs.Turns.{Turned}
 use Rattle.load.proofs.work.repeat.Goals as goal
 

@@ -1,7 +1,7 @@
 -- A bad place is at most past the end.
 use Rattle.std.proofs.Common.{arith}
-use Rattle.hex.specs.declared.digits.Letters.TheVariants.{Either}
-use Rattle.hex.proofs.HexLaws.{bad_within}
+use Rattle.digits.specs.declared.single.Letters.TheVariants.{Either}
+use Rattle.digits.proofs.HexLaws.{bad_within}
 use Rattle.sealed.proofs.words.spoils.Goals as goal
 
 pub overflow_add-column : goal.overflow_add-column

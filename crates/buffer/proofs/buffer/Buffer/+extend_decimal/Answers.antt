@@ -1,5 +1,5 @@
 -- The last digit, after the others where there are some.
-use Rattle.std.proofs.Common.{◌≡◌, ◌+◌, ◌%◌, [], ◌∷◌, ap, ◌∙◌, arith}
+use Rattle.std.proofs.Common.{◌+◌, ◌%◌, [], ◌∷◌, ap, ◌∙◌}
 use Rattle.buffer.specs.Buffers.{held, kept}
 use Rattle.buffer.proofs.BufferLaws.{last_digit, one_digit}
 use Rattle.buffer.proofs.buffer.Buffer.+extend_decimal.Goals as goal

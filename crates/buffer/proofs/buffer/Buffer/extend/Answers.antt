@@ -1,5 +1,5 @@
 -- One byte more, and the end.
-use Rattle.std.proofs.Common.{◌≡◌, ◌+◌, List, [], ◌∷◌, get_or, drop, sym, ap, ◌∙◌}
+use Rattle.std.proofs.Common.{◌+◌, [], ◌∷◌, get_or, drop, sym, ap, ◌∙◌}
 use Rattle.std.proofs.lemmas.List.{at_drop_more, at_drop_all}
 use Rattle.buffer.specs.Buffers.{held, kept}
 use Rattle.buffer.proofs.BufferLaws.{kept_kept, held_all}

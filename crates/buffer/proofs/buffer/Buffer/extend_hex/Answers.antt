@@ -1,8 +1,8 @@
 -- Two digits more, and the end.
-use Rattle.std.proofs.Common.{◌≡◌, ◌+◌, ◌/◌, ◌%◌, List, [], ◌∷◌, get_or, drop, sym, ap, ◌∙◌, arith}
+use Rattle.std.proofs.Common.{◌≡◌, ◌+◌, ◌/◌, get_or, drop, sym, ap, ◌∙◌, arith}
 use Rattle.std.proofs.lemmas.List.{at_drop_more, at_drop_all}
-use Rattle.hex.specs.Digits.{hex_digit}
-use Rattle.hex.specs.Pairs.{hex}
+use Rattle.digits.specs.Digits.{hex_digit}
+use Rattle.digits.specs.Pairs.{hex}
 use Rattle.buffer.specs.Buffers.{held, kept}
 use Rattle.buffer.proofs.BufferLaws.{two_more, held_all}
 use Rattle.buffer.proofs.buffer.Buffer.extend_hex.Goals as goal

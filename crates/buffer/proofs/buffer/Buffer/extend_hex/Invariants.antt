@@ -1,6 +1,6 @@
 -- What is left to write gives the whole.
 use Rattle.std.proofs.Common.{◌≡◌, drop}
-use Rattle.hex.specs.Pairs.{hex}
+use Rattle.digits.specs.Pairs.{hex}
 use Rattle.buffer.specs.Buffers.{held, kept}
 use Rattle.buffer.proofs.buffer.Buffer.extend_hex.Given as goal
 

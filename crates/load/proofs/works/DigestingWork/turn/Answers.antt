@@ -1,8 +1,7 @@
 -- The entry of the whole text lies in it and cuts all of it out.
-use Rattle.std.proofs.Common.{◌≡◌, ℕ, ◌+◌, ◌≤◌, Bool, false, cond, ltb, List, [], ◌∷◌, length, is_ok, Some, None, Result, ap, ◌∙◌, ap₂, le_refl, arith}
+use Rattle.std.proofs.Common.{◌≡◌, ℕ, ◌+◌, ◌≤◌, cond, List, [], ◌∷◌, length, is_ok, Some, None, Result, ap, ◌∙◌, ap₂, le_refl, arith}
 use Rattle.std.proofs.lemmas.List.{take_all}
 use Rattle.std.proofs.lemmas.Bool.{le-ltb}
-use Rattle.digests.specs.declared.entries.Entry.{Entry}
 use Rattle.digests.specs.declared.entries.EntryFault.{EntryFault}
 use Rattle.digests.specs.declared.entries.EntryFault.TheVariants.{Digest}
 use Rattle.digests.specs.Entries.{answered, outside, cuts}

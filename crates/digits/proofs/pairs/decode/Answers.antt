@@ -1,8 +1,8 @@
 -- A pair of digits more, and the end.
-use Rattle.std.proofs.Common.{◌≡◌, ◌+◌, ◌*◌, ◌<◌, ◌≤◌, length, sym, ◌∙◌, ⊎_elim, arith}
+use Rattle.std.proofs.Common.{◌+◌, ◌*◌, ◌<◌, ◌≤◌, length, sym, ◌∙◌, ⊎_elim, arith}
 use Rattle.std.proofs.lemmas.Bool.{cases_lt}
-use Rattle.hex.proofs.HexLaws.{laid_more, laid_full, laid_out}
-use Rattle.hex.proofs.pairs.decode.Goals as goal
+use Rattle.digits.proofs.HexLaws.{laid_more, laid_full, laid_out}
+use Rattle.digits.proofs.pairs.decode.Goals as goal
 
 pub loop-i-preserved : goal.loop-i-preserved
 loop-i-preserved c =

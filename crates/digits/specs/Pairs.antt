@@ -1,7 +1,7 @@
 -- Bytes and their digits, two for each.
 use Rattle.std.specs.Prelude.{◌≡◌, ℕ, ◌+◌, ◌*◌, ◌/◌, ◌%◌, ◌<◌, List, [], ◌∷◌, None, slice_index}
-use Rattle.hex.specs.declared.digits.Letters.{Letters}
-use Rattle.hex.specs.Digits.{digit_value, hex_digit, bad_hex}
+use Rattle.digits.specs.declared.single.Letters.{Letters}
+use Rattle.digits.specs.Digits.{digit_value, hex_digit, bad_hex}
 
 -- the bytes that pairs of digits write
 abbrev pub unhex : List ℕ → List ℕ

@@ -1,8 +1,8 @@
 // Pairs of digits, and the bytes that they write.
 ghost use Rattle.std.specs.Prelude.{◌≡◌, IfOk};
-ghost use Rattle.hex.specs.Pairs.{unhex, laid, DigitsReadBack};
+ghost use Rattle.digits.specs.Pairs.{unhex, laid, DigitsReadBack};
 
-use crate::digits::value_or_zero;
+use crate::single::value_or_zero;
 use std::alloc::{AllocError, Global};
 
 // Writes the bytes of the digits over the front of a buffer, as many as it has room for. A byte that is no digit counts as 0, and a last digit without a second one as nothing.

@@ -2,8 +2,8 @@
 use Rattle.std.specs.Prelude.{ℕ, ◌+◌, ◌-◌, ◌%◌, Bool, cond, ◌&&◌, List, [], ◌∷◌, length, is_some, Some, None, codes, Option, ◌==◌, nat_le, nat_lt, slice_index}
 use Prim.Native.String.{String}
 use Rattle.std.specs.Option.{unwrap_or, option_or}
-use Rattle.hex.specs.declared.digits.Letters.{Letters}
-use Rattle.hex.specs.declared.digits.Letters.TheVariants.{Lower, Either}
+use Rattle.digits.specs.declared.single.Letters.{Letters}
+use Rattle.digits.specs.declared.single.Letters.TheVariants.{Lower, Either}
 
 -- the code of a text's first character
 abbrev pub char_of : String → ℕ

@@ -1,6 +1,6 @@
 // Single digits.
 ghost use Rattle.std.specs.Prelude.{◌≡◌, ◌%◌, ◌<◌};
-ghost use Rattle.hex.specs.Digits.{low_value, capital_value, value_of, digit_value, hex_digit, bad_hex};
+ghost use Rattle.digits.specs.Digits.{low_value, capital_value, value_of, digit_value, hex_digit, bad_hex};
 
 // Which letters are digits: a to f alone, or A to F too.
 #[derive(Clone, Copy)]

@@ -1,12 +1,12 @@
 -- Laws of hex digits: the turns of the loops over them, and digits read back.
-use Rattle.std.proofs.Common.{◌≡◌, ℕ, suc, ◌+◌, ◌-◌, ◌*◌, ◌/◌, ◌%◌, ◌<◌, ◌≤◌, Bool, true, false, cond, ◌&&◌, eqb, ltb, leb, List, [], ◌∷◌, ◌++◌, length, get_or, take, drop, set, is_some, Some, None, Option, unwrap_or, sym, refl, ap, ◌∙◌, subst, ap₂, ⊎_elim, arith}
+use Rattle.std.proofs.Common.{◌≡◌, ℕ, suc, ◌+◌, ◌-◌, ◌*◌, ◌/◌, ◌%◌, ◌<◌, ◌≤◌, Bool, true, false, cond, ◌&&◌, eqb, leb, List, [], ◌∷◌, ◌++◌, length, get_or, take, drop, set, is_some, Some, None, Option, unwrap_or, sym, refl, ap, ◌∙◌, subst, ap₂, ⊎_elim, arith}
 use Rattle.std.specs.Option.{option_or}
-use Rattle.std.proofs.lemmas.List.{append_assoc, at_drop_more, at_drop_all, drop_more, drop_all, drop-set-lt, length-drop, take_all, take-append-drop, take_more_set}
+use Rattle.std.proofs.lemmas.List.{append_assoc, at_drop_more, at_drop_all, drop_more, drop_all, drop-set-lt, length-drop, take-append-drop, take_more_set}
 use Rattle.std.proofs.lemmas.Bool.{and_from, and_right, cases_lt, cond_both, le-leb, lt-leb, lt-ltb, le-ltb, ne_eqb}
-use Rattle.hex.specs.declared.digits.Letters.{Letters}
-use Rattle.hex.specs.declared.digits.Letters.TheVariants.{Lower, Either}
-use Rattle.hex.specs.Digits.{low_value, capital_value, value_of, digit_value, bad_digit, bad_hex, hex_digit}
-use Rattle.hex.specs.Pairs.{unhex, hex, laid}
+use Rattle.digits.specs.declared.single.Letters.{Letters}
+use Rattle.digits.specs.declared.single.Letters.TheVariants.{Lower, Either}
+use Rattle.digits.specs.Digits.{low_value, capital_value, value_of, digit_value, bad_digit, bad_hex, hex_digit}
+use Rattle.digits.specs.Pairs.{unhex, hex, laid}
 
 -- the byte at i decides, or those after it
 bad_at : (letters : Letters) (xs : List ℕ) (i : ℕ) (good : Bool) → i < length xs → is_some (value_of letters (get_or xs i 0)) ≡ good

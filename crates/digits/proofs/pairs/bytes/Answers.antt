@@ -1,8 +1,8 @@
 -- The vector is as long as the bytes are many.
 use Rattle.std.proofs.Common.{sym, ◌∙◌}
 use Rattle.std.proofs.lemmas.List.{take_at}
-use Rattle.hex.proofs.HexLaws.{laid_whole, length-unhex}
-use Rattle.hex.proofs.pairs.bytes.Goals as goal
+use Rattle.digits.proofs.HexLaws.{laid_whole, length-unhex}
+use Rattle.digits.proofs.pairs.bytes.Goals as goal
 
 pub returns : goal.returns
 returns c =

@@ -1,7 +1,7 @@
 -- One digit more, and the end of the digits.
 use Rattle.std.proofs.Common.{true, false, is_some, sym, ap, ◌∙◌, rules}
-use Rattle.hex.proofs.HexLaws.{bad_more, bad_here, bad_none}
-use Rattle.hex.proofs.digits.bad_place.Goals as goal
+use Rattle.digits.proofs.HexLaws.{bad_more, bad_here, bad_none}
+use Rattle.digits.proofs.single.bad_place.Goals as goal
 
 pub returns-then-is_none : goal.returns-then-is_none
 returns-then-is_none c =

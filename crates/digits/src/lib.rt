@@ -1,6 +1,8 @@
 // Hex digits: their values, what spoils them, the bytes that they write, and the digits of bytes.
-mod digits;
-mod pairs;
+#![tactic(auto)]
 
-pub use digits::{Letters, bad_place, hex_digit, hex_value, value_or_zero};
+mod pairs;
+mod single;
+
 pub use pairs::{bytes, decode, digits_read_back};
+pub use single::{Letters, bad_place, hex_digit, hex_value, value_or_zero};

@@ -1,6 +1,0 @@
--- Digit by digit.
-use Rattle.hex.proofs.HexLaws.{sound-hex, unhex-hex}
-use Rattle.hex.proofs.pairs.digits_read_back.Goals as goal
-
-pub returns : goal.returns
-returns c = record { sound = sound-hex; same = unhex-hex }
