@@ -1,8 +1,9 @@
 -- The positions, and the turns of the loops that inject a block and read a word: what every engine's proof uses.
-use Rattle.std.proofs.Common.{◌≡◌, ℕ, suc, ◌+◌, ◌-◌, ◌*◌, ◌%◌, ◌^◌, ◌<◌, ◌≤◌, Bool, true, ◌&&◌, ltb, List, [], ◌∷◌, ◌++◌, map, length, get_or, sym, refl, ap, ◌∙◌, subst, mul-le-mul_right, mul_assoc, pow-suc, zero-add, arith}
-use lib.Bits.{bit_or, or_shifted_r}
+use Rattle.std.proofs.Common.{◌≡◌, ℕ, zero, suc, ◌+◌, ◌-◌, ◌*◌, ◌/◌, ◌%◌, ◌^◌, ◌<◌, ◌≤◌, Bool, true, ◌&&◌, ltb, List, [], ◌∷◌, ◌++◌, map, length, get_or, set, sym, refl, ap, ◌∙◌, subst, mul-le-mul_right, mul_assoc, pow-suc, zero-add, arith}
+use lib.Bits.{bit_or, or_shifted_r, xor_zero_r}
 use Rattle.std.specs.List.{range_with_len}
-use Rattle.std.proofs.lemmas.Nat.{shl_whole, pow-add}
+use Rattle.std.proofs.lemmas.Nat.{shl_whole, pow-add, shr-shr}
+use Rattle.std.proofs.lemmas.List.{set-get_or}
 use Rattle.std.proofs.lemmas.List.FromFn.{get_or-map-range_with_len, length-map-range_with_len, map-range_with_len_more}
 use Rattle.std.proofs.lemmas.Bool.{and_parts, ltb-true}
 use Rattle.duplex.specs.State.{position, positions, bit, add_at, add_bits, number}
@@ -31,6 +32,13 @@ add_bits_more p x s j h = let e : 33 - j ≡ suc (33 - (j + 1)) = omega arith in
 
 pub add_bits_all : (p : ℕ → ℕ) (x : ℕ) (s : List ℕ) (j : ℕ) → 33 ≤ j → add_bits p x s (range_with_len j (33 - j)) ≡ s
 add_bits_all p x s j h = let e : 33 - j ≡ 0 = omega arith in ap (λ n. add_bits p x s (range_with_len j n)) e
+
+-- past the highest bit nothing is added
+pub add_bits_none : (p : ℕ → ℕ) (x : ℕ) (s : List ℕ) (n j : ℕ) → x / 2 ^ j ≡ 0 → add_bits p x s (range_with_len j n) ≡ s
+add_bits_none p x s zero j h = refl
+add_bits_none p x s (suc n) j h =
+    let none : add_at s (p j) (bit x j) ≡ s = ap (λ y. add_at s (p j) (y % 2)) h ∙ (ap (set s (p j)) (xor_zero_r (get_or s (p j) 0)) ∙ set-get_or s (p j) 0) in
+    ap (λ t. add_bits p x t (range_with_len (j + 1) n)) none ∙ add_bits_none p x s n (j + 1) (sym (shr-shr x j 1) ∙ ap (λ y. y / 2 ^ 1) h)
 
 number_push : (bs : List ℕ) (b : ℕ) → number (bs ++ b ∷ []) ≡ number bs + b * 2 ^ length bs
 number_push [] b = omega arith

@@ -1,3 +1,4 @@
 pub mod State
 pub mod Strings
+pub mod Bytes
 pub mod Figures

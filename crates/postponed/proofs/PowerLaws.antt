@@ -1,22 +1,19 @@
--- The rules of the table of powers: two tests over the whole table, carried to each entry; the ring of powers; the positions among them.
-use Rattle.std.proofs.Common.{◌≡◌, ℕ, zero, suc, ◌+◌, ◌*◌, ◌%◌, ◌^◌, ◌<◌, Bool, true, cond, eqb, ltb, List, [], ◌∷◌, length, get_or, sym, refl, ap, ◌∙◌, subst, ⊎_elim, add-one, arith}
+-- The rules of the tables of powers and logarithms: tests over a whole table, carried to each entry; the ring of powers; places by logarithms, and the positions among the powers.
+use Rattle.std.proofs.Common.{◌≡◌, ℕ, zero, suc, ◌+◌, ◌*◌, ◌%◌, ◌^◌, ◌<◌, Bool, true, ◌||◌, eqb, ltb, List, length, get_or, sym, refl, ap, ◌∙◌, subst, ⊎_elim, add-one, arith}
 use native.Mathlib.Nat.{pow-succ'}
 use Rattle.std.proofs.lemmas.Nat.{pow-add}
-use Rattle.std.proofs.lemmas.Bool.{cases_lt, eqb-true, ltb-true}
-use Rattle.duplex.specs.State.{position}
+use Rattle.std.proofs.lemmas.List.{get_or_past}
+use Rattle.std.proofs.lemmas.Bool.{cases_lt, eqb-true, ne_eqb, ltb-true}
+use Rattle.duplex.specs.State.{position, positions}
+use Rattle.duplex.proofs.StepLaws.{getD_positions, position_range}
 use Rattle.duplex.proofs.Tables.{every, every_at}
 use Rattle.words.specs.Packing.{place_by}
 use Rattle.words.specs.ModLaws.{cut_left, cut_right}
-use Rattle.postponed.specs.Powers.{IsPowers, power_of_12, powers_of_12}
+use Rattle.postponed.specs.Powers.{IsPowers, power_of_12, powers_of_12, place_of, logarithms_of_12}
 
 -- the entry after x, the table taken as a ring, is 12 times x
 abbrev leads : List ℕ → ℕ → ℕ → Bool
 leads t n x = eqb (get_or t ((n + 1) % 256) 0) (12 * x % 257)
-
--- where x first stands
-place_of : ℕ → List ℕ → ℕ
-place_of x [] = 0
-place_of x (y ∷ ys) = cond (eqb x y) 0 (suc (place_of x ys))
 
 abbrev first_here : List ℕ → ℕ → ℕ → Bool
 first_here t n x = eqb (place_of x t) n
@@ -34,7 +31,7 @@ tested t long first ring places =
     }
 
 pub powers_rules : IsPowers powers_of_12
-unfolding powers_of_12 place_of
+unfolding powers_of_12
 powers_rules = tested powers_of_12 refl refl refl refl
 
 -- in the ring of powers each leads to the next
@@ -73,6 +70,15 @@ pub power_positive : (n : ℕ) → n < 256 → 0 < power_of_12 n
 unfolding powers_of_12
 power_positive n h = subst (λ x. 0 < x) (getD_powers n h) (ltb-true 0 _ (every_at positive powers_of_12 refl n h))
 
+-- every entry of the table of positions, and the 0 past its end
+pub position_below : (t : List ℕ) (j : ℕ) → t ≡ positions → get_or t j 0 < 257
+unfolding positions
+position_below t j e =
+    ⊎_elim
+    (λ l. subst (λ p. p < 257) (sym (ap (λ t. get_or t j 0) e ∙ getD_positions j l)) (position_range j l).1)
+    (λ l. subst (λ p. p < 257) (sym (ap (λ t. get_or t j 0) e ∙ get_or_past positions j 0 l)) (omega arith))
+    (cases_lt j 33)
+
 -- position j is a power of 12
 position_power : (j : ℕ) → power_of_12 (4 * j) ≡ position j
 unfolding position
@@ -83,7 +89,20 @@ position_power (suc j) =
     ∙ (sym (cut_right 20736 (12 ^ (4 * j))) ∙ (ap (λ x. 20736 * x % 257) (position_power j)
     ∙ (sym (cut_left 20736 (position j)) ∙ (cut_right 176 (176 ^ j) ∙ ap (λ x. x % 257) (sym (pow-succ' 176 j)))))))
 
+-- the place of a position, by a logarithm of it
+pub place_logarithm : (n l j : ℕ) → power_of_12 l ≡ position j → power_of_12 ((n + l) % 256) ≡ place_by (12 ^ n) j
+place_logarithm n l j e =
+    turned (n + l) ∙ (ap (λ x. x % 257) (pow-add 12 n l) ∙ (sym (cut_right (12 ^ n) (12 ^ l)) ∙ ap (λ x. 12 ^ n * x % 257) e))
+
 pub place_power : (n j : ℕ) → power_of_12 ((n + 4 * j) % 256) ≡ place_by (12 ^ n) j
-place_power n j =
-    turned (n + 4 * j) ∙ (ap (λ x. x % 257) (pow-add 12 n (4 * j))
-    ∙ (sym (cut_right (12 ^ n) (12 ^ (4 * j))) ∙ ap (λ x. 12 ^ n * x % 257) (position_power j)))
+place_power n j = place_logarithm n (4 * j) j (position_power j)
+
+-- a power of 12 undoes a logarithm
+abbrev undoes : ℕ → ℕ → Bool
+undoes p l = eqb p 0 || eqb (power_of_12 l) p
+
+pub logarithm_undone : (p : ℕ) → 0 < p → p < 257 → power_of_12 (get_or logarithms_of_12 p 0) ≡ p
+unfolding powers_of_12 logarithms_of_12
+logarithm_undone p more h =
+    let tested : undoes p (get_or logarithms_of_12 p 0) ≡ true = every_at undoes logarithms_of_12 refl p h in
+    eqb-true _ _ (ap (λ b. b || eqb (power_of_12 (get_or logarithms_of_12 p 0)) p) (sym (ne_eqb p 0 (λ e. omega arith))) ∙ tested)

@@ -7,10 +7,9 @@ use Rattle.std.proofs.lemmas.List.{get_or-set_same, get_or-set_other}
 use Rattle.std.proofs.lemmas.Bool.{cases_Bool, cases_eq, eqb-true, eqb-false, eq-eqb, ne_eqb}
 use Rattle.duplex.specs.State.{IsState, at, chi, theta, iota, pi, round, bit, add_at, add_bits, position, inject, step, number, read_bit, reading}
 use Rattle.duplex.proofs.StateLaws.{at_state, state_ext, getD_state, length-state, state_all, state_is}
-use Rattle.words.specs.Packing.{mixed, chi_rule, chi_by, theta_rule, theta_by, round_by, place_by, inject_by, read_bit_by, reading_by}
+use Rattle.words.specs.Packing.{stretch, mixed, chi_rule, chi_by, theta_rule, theta_by, round_by, place_by, inject_by, read_bit_by, reading_by}
 use Rattle.words.specs.ModLaws.{cut_left, cut_right}
 use Rattle.words.proofs.FactorLaws.{add_bits_ext, map_ext}
-use Rattle.postponed.specs.Stretch.{stretch}
 
 -- at takes its index modulo 257
 at_mod : (s : List ℕ) (i j : ℕ) → i % 257 ≡ j % 257 → at s i ≡ at s j

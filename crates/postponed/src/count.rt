@@ -2,6 +2,7 @@
 ghost use Rattle.std.specs.Prelude.{◌≡◌, ◌+◌, ◌%◌, ◌^◌, ◌<◌};
 ghost use Rattle.postponed.specs.Powers.{power_of_12};
 
+use crate::logarithm::logarithms;
 use crate::table::powers;
 use duplex::positions;
 use words::{Lane, Places, Residue};
@@ -35,10 +36,13 @@ impl Count {
 impl Places for Count {
     ghost factor = { λ e. 12 ^ e.value };
 
+    // A product of powers is the power of a sum.
     fn place(&self, lane: Lane) -> Residue {
-        let position = Residue {
-            value: positions()[lane.number],
+        let position = positions()[lane.number];
+        let logarithm = u32::from(logarithms()[position as usize]);
+        let sum = Count {
+            value: (self.value + logarithm) % 256,
         };
-        self.power().times(position)
+        sum.power()
     }
 }

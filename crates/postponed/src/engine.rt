@@ -13,8 +13,8 @@ use words::Words;
 
 #[derive(Clone, Copy)]
 pub struct Postponed {
-    words: Words,
-    count: Count,
+    pub(crate) words: Words,
+    pub(crate) count: Count,
 }
 
 impl Engine for Postponed {

@@ -1,3 +1,5 @@
 pub mod RowLaws
 pub mod FactorLaws
 pub mod ReadLaws
+pub mod ByteLaws
+pub mod StretchLaws

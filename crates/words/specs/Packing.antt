@@ -15,6 +15,10 @@ cells ws = state (word_bit ws)
 unfoldable pub rotated : ℕ → List ℕ → List ℕ
 rotated d s = state (λ i. at s (i + d))
 
+-- the state whose bit i is bit c × i of s
+unfoldable pub stretch : ℕ → List ℕ → List ℕ
+stretch c s = state (λ i. at s (c * i))
+
 -- a rule of three bits, of s and of s rotated by d and by e
 unfoldable pub mixed : (ℕ → ℕ → ℕ → ℕ) → ℕ → ℕ → List ℕ → List ℕ
 mixed rule d e s = state (λ i. rule (at s i) (at s (i + d)) (at s (i + e)))

@@ -1,6 +1,7 @@
 // The 257 bits in nine words of 32 bits, and the packed engine.
 #![tactic(auto)]
 
+mod bytes;
 mod packed;
 mod residue;
 mod round;

@@ -1,7 +1,7 @@
 // The round on packed bits, with every distance times c.
-ghost use Rattle.std.specs.Prelude.{◌≡◌, ℕ, ◌<◌};
-ghost use Rattle.duplex.specs.State.{bit, pi};
-ghost use Rattle.words.specs.Packing.{cells, mixed, chi_rule, theta_rule, round_by};
+ghost use Rattle.std.specs.Prelude.{◌≡◌, ℕ, ◌+◌, ◌*◌, ◌%◌, ◌<◌};
+ghost use Rattle.duplex.specs.State.{at, bit, pi};
+ghost use Rattle.words.specs.Packing.{cells, stretch, mixed, chi_rule, theta_rule, round_by};
 
 use crate::residue::Residue;
 use crate::row::Row;
@@ -66,12 +66,35 @@ impl Words {
     pub fn shuffle(&self) -> Words
         ensures { cells result.array ≡ pi (cells self.now.array) }
     {
-        let mut words = Words::new();
+        self.stretch_by(Residue { value: 12 })
+    }
+
+    // Bit i becomes bit c i.
+    pub fn stretch_by(&self, c: Residue) -> Words
+        ensures { cells result.array ≡ stretch c.value (cells self.now.array) }
+    {
+        let mut array = [0u32; 9];
         let mut from = Residue { value: 0 };
-        for i in 0..257 {
-            words.add_bit(Residue { value: i }, self.bit(from));
-            from = from.plus(Residue { value: 12 });
+        for k in 0..8 {
+            let (word, next) = self.gather(from, c);
+            array[k] = word;
+            from = next;
         }
-        words
+        array[8] = self.bit(from);
+        Words { array }
+    }
+
+    // A word of 32 bits, the first from a place and each next from c further on; and the place after the last.
+    fn gather(&self, start: Residue, c: Residue) -> (u32, Residue)
+        ensures bits { (j : ℕ) → j < 32 → bit result.0 j ≡ at (cells self.now.array) (start.value + c.value * j) }
+        ensures next { result.1.value ≡ (start.value + c.value * 32) % 257 }
+    {
+        let mut word = 0u32;
+        let mut from = start;
+        for j in 0..32u32 {
+            word |= self.bit(from) << j;
+            from = from.plus(c);
+        }
+        (word, from)
     }
 }

@@ -22,13 +22,17 @@ pub trait Places {
 }
 
 impl Words {
-    // Adds bit j of the block at the place of position j, for the lowest 33 bits.
+    // Adds bit j of the block at the place of position j, for the lowest 33 bits. It stops past the highest bit that is set, which in a padded block is the 1 after its bytes: how many turns there are depends on the block's length alone.
     pub fn inject_by<P: Places>(&mut self, block: u64, places: &P)
         ensures { cells self.new.array ≡ inject_by (P.Places.factor places.now) (cells self.old.array) block }
     {
         for j in 0..33 {
+            let rest = block >> j;
+            if rest == 0 {
+                return;
+            }
             let place = places.place(Lane { number: j });
-            self.add_bit(place, ((block >> j) & 1) as u32);
+            self.add_bit(place, (rest & 1) as u32);
         }
     }
 

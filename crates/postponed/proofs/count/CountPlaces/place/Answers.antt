@@ -1,23 +1,26 @@
--- The factor times a position; it is a power of 12 too, and so never 0.
-use Rattle.std.proofs.Common.{◌≡◌, ◌+◌, ◌*◌, ◌%◌, ◌^◌, ◌<◌, get_or, sym, ap, ◌∙◌, subst, ap₂, arith}
+-- The logarithms of the factor and of the position added up; a power of 12 is never 0.
+use Rattle.std.proofs.Common.{◌≡◌, ◌+◌, ◌%◌, ◌<◌, get_or, sym, ap, ◌∙◌, subst, arith}
 use Rattle.duplex.specs.State.{position}
 use Rattle.duplex.proofs.StepLaws.{getD_positions, position_range}
-use Rattle.words.specs.Packing.{place_by}
-use Rattle.words.specs.ModLaws.{cut_left}
-use Rattle.postponed.proofs.PowerLaws.{place_power, power_positive}
+use Rattle.postponed.specs.Powers.{power_of_12}
+use Rattle.postponed.proofs.PowerLaws.{position_below, place_logarithm, power_positive}
 use Rattle.postponed.proofs.count.CountPlaces.place.Goals as goal
 
-pub invariant_of-position : goal.invariant_of-position
-invariant_of-position c =
-    let j = c.args.lane.number in
-    let table = ap (λ t. get_or t j 0) c.positions.ensures ∙ getD_positions j c.args.lane.low in
-    record { below = subst (λ p. p < 257) (sym table) (position_range j c.args.lane.low).1 }
+pub bounds-logarithms-position : goal.bounds-logarithms-position
+bounds-logarithms-position c = position_below _ _ c.positions.ensures
 
 pub returns : goal.returns
 returns c =
     let n = c.args.self.now.value in
     let j = c.args.lane.number in
-    let table = ap (λ t. get_or t j 0) c.positions.ensures ∙ getD_positions j c.args.lane.low in
-    let is : c.times.result.value ≡ place_by (12 ^ n) j =
-    c.times.ensures ∙ ap₂ (λ f p. f * p % 257) c.power.ensures table ∙ cut_left (12 ^ n) (position j) in
-    record { value = is; nonzero = subst (λ x. 0 < x) (place_power n j ∙ sym is) (power_positive ((n + 4 * j) % 256) (omega arith)) }
+    let logs = c.logarithms.result.now in
+    let l = c.from-logarithm.result in
+    let table : get_or c.positions.result.now j 0 ≡ position j = ap (λ t. get_or t j 0) c.positions.ensures ∙ getD_positions j c.args.lane.low in
+    let range = position_range j c.args.lane.low in
+    let undone : power_of_12 l ≡ position j =
+    ap power_of_12 (c.from-logarithm.ensures ∙ ap (λ p. get_or logs p 0) table) ∙ c.logarithms.ensures.undone (position j) range.0 range.1 in
+    let is = c.power.ensures in
+    record {
+      value = is ∙ place_logarithm n l j undone;
+      nonzero = subst (λ x. 0 < x) (sym is) (power_positive ((n + l) % 256) (omega arith));
+    }

@@ -1,0 +1,42 @@
+-- Each turn puts one bit into its place.
+use Rattle.std.proofs.Common.{◌≡◌, ℕ, ◌+◌, ◌*◌, ◌%◌, ◌<◌, get_or, sym, ap, ◌∙◌, subst, add-zero, add_assoc, mul-zero, mul-one, mul-add, arith, below_more}
+use Rattle.duplex.specs.State.{at}
+use Rattle.words.specs.Packing.{cells}
+use Rattle.words.specs.BitLaws.{bit_zero, bit_below, bit_here, bit_above}
+use Rattle.words.specs.ModLaws.{sum_mod}
+use Rattle.words.specs.WordLaws.{cells-state}
+use Rattle.words.proofs.vector.Words.gather.Goals as goal
+
+pub loop-j-init : goal.loop-j-init
+loop-j-init c =
+    let first : c.args.start.value ≡ c.args.start.value % 257 = omega (arith, c.args.start.below) in (
+      first ∙ ap (λ n. n % 257) (sym (ap (λ n. c.args.start.value + n) (mul-zero c.args.c.value) ∙ add-zero c.args.start.value)),
+      (λ m h. absurd (omega arith)),
+      (λ m _ h. bit_zero m),
+    )
+
+pub loop-j-preserved : goal.loop-j-preserved
+loop-j-preserved c =
+    let s = cells c.args.self.now.array in
+    let j = c.loop-j.j in
+    let b = c.bit.result in
+    let d = c.args.c.value in
+    let a = c.args.start.value in
+    let f : ℕ → ℕ = λ m. at s (a + d * m) in
+    let read : b ≡ f j = c.bit.ensures ∙ ap (λ n. get_or s n 0) c.loop-j.invariant.0 in
+    let hb : b < 2 = subst (λ n. n < 2) (sym c.bit.ensures) ((cells-state c.args.self.now.array).bits c.loop-j.from.value) in
+    let hj = c.loop-j-test.true in
+    let cut : d ≡ d % 257 = omega (arith, c.args.c.below) in
+    let more : a + d * j + d ≡ a + d * (j + 1) = add_assoc a (d * j) d ∙ ap (λ n. a + n) (sym (mul-add d j 1 ∙ ap (λ n. d * j + n) (mul-one d))) in (
+      c.plus-from.ensures ∙ (sum_mod (a + d * j) d _ d c.loop-j.invariant.0 cut ∙ ap (λ n. n % 257) more),
+      below_more _ _ (λ m h. bit_below c.loop-j.word b j hb hj m (f m) h (c.loop-j.invariant.1 m h)) (bit_here c.loop-j.word b j hb hj (c.loop-j.invariant.2 j (omega arith) hj) ∙ read),
+      (λ m l h. bit_above c.loop-j.word b j hb hj m (omega arith) h (c.loop-j.invariant.2 m (omega arith) h)),
+    )
+
+pub returns : goal.returns
+returns c =
+    let e : c.loop-j.j ≡ 32 = omega arith in
+    record {
+      bits = λ j h. c.loop-j.invariant.1 j (omega arith);
+      next = c.loop-j.invariant.0 ∙ ap (λ n. (c.args.start.value + c.args.c.value * n) % 257) e;
+    }

@@ -1,0 +1,31 @@
+-- One byte a turn; the bytes hold the state and no more.
+use Rattle.std.proofs.Common.{◌≡◌, ◌*◌, ◌/◌, ◌%◌, ◌^◌, ◌<◌, get_or, sym, refl, ap, ◌∙◌, arith, length-set}
+use Rattle.std.proofs.lemmas.Nat.{and_mask}
+use Rattle.std.proofs.lemmas.List.Edits.{fill_by_more}
+use Rattle.duplex.specs.Bytes.{bytes_of_state}
+use Rattle.words.proofs.ByteLaws.{word_byte, cells-bytes, bytes_back}
+use Rattle.words.proofs.vector.Words.to_bytes.Goals as goal
+
+pub loop-k-init : goal.loop-k-init
+loop-k-init c = (refl, λ m h. absurd (omega arith))
+
+pub loop-k-preserved : goal.loop-k-preserved
+loop-k-preserved c =
+    let ws = c.args.self.now.array in
+    let k = c.loop-k.k in
+    let byte = and_mask (get_or ws (k / 4) 0 / 2 ^ (8 * (k % 4))) 8 in (
+      length-set c.loop-k.bytes k _ ∙ c.loop-k.invariant.0,
+      rw byte (fill_by_more (word_byte ws) c.loop-k.bytes k 0 (omega arith) c.loop-k.invariant.1),
+    )
+
+pub returns : goal.returns
+returns c =
+    let ws = c.args.self.now.array in
+    let r = c.loop-k.bytes in
+    let made : (m : _) → m < 33 → get_or r m 0 ≡ word_byte ws m = λ m h. c.loop-k.invariant.1 m (omega arith) in
+    let last : get_or r 32 0 ≡ get_or ws 8 0 % 256 = omega (arith, made 32 (omega arith)) in
+    let held = cells-bytes ws r (λ k h. sym (made k (omega arith))) (omega (arith, last, c.args.self.now.spare)) in
+    record {
+      value = bytes_back r (omega (arith, last, c.args.self.now.spare)) c.loop-k.invariant.0 (λ k h. omega (arith, made k h)) ∙ ap bytes_of_state (sym held);
+      back = sym held;
+    }
