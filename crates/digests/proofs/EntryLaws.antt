@@ -2,8 +2,11 @@
 use Rattle.std.proofs.Common.{◌≡◌, ℕ, zero, suc, ◌+◌, ◌-◌, ◌<◌, ◌≤◌, Bool, true, false, cond, List, [], ◌∷◌, length, get_or, take, drop, Some, None, Option, sym, refl, ap, ◌∙◌, le_of_suc-le-suc, not-suc-le-zero, arith}
 use Rattle.std.proofs.lemmas.List.{at_drop_more, at_drop_all}
 use Rattle.std.proofs.lemmas.Bool.{ltb-false}
+use Rattle.refusals.specs.declared.Layer.{Layer}
+use Rattle.refusals.specs.Tables.{first_of, refused_by, refusal_of}
 use Rattle.digests.specs.declared.entries.Entry.{Entry}
-use Rattle.digests.specs.Entries.{too_far, outside, cuts}
+use Rattle.digests.specs.declared.entries.EntryFault.{EntryFault}
+use Rattle.digests.specs.Entries.{too_far, outside, cuts, answered, told, entry_rows, entry_table}
 use Rattle.digests.specs.Digests.{absorbed_all}
 
 abbrev pub no_entry : Entry
@@ -44,3 +47,18 @@ absorb_turn rule s s' buffer es k h moved =
 pub absorb_end : (rule : List ℕ → List ℕ → List ℕ) (s buffer : List ℕ) (es : List Entry) (k : ℕ) → length es ≤ k
     → s ≡ absorbed_all rule s (cuts buffer (drop k es))
 absorb_end rule s buffer es k h = sym (at_drop_all (λ r. absorbed_all rule s (cuts buffer r)) es k h)
+
+-- What the answers tell: the first row of the table whose condition holds.
+module _ (layer : Layer) (fault : ℕ → EntryFault) (tells : (i : ℕ) → told (fault i) ≡ refusal_of layer 8 i) (size : ℕ) where
+  rows_tell : (es : List Entry) (i : ℕ) → refused_by told (answered fault (outside i size es)) ≡ first_of (entry_rows layer i size es)
+  rows_tell [] i = refl
+  rows_tell (e ∷ es) i = at (too_far size e) (rows_tell es (i + 1))
+    where
+      at : (far : Bool) → refused_by told (answered fault (outside (i + 1) size es)) ≡ first_of (entry_rows layer (i + 1) size es)
+          → refused_by told (answered fault (cond far (Some i) (outside (i + 1) size es))) ≡ cond far (Some (refusal_of layer 8 i)) (first_of (entry_rows layer (i + 1) size es))
+      at true rest = ap Some (tells i)
+      at false rest = rest
+
+  pub entries-tell : (es : List Entry) → refused_by told (answered fault (outside 0 size es)) ≡ first_of (entry_table layer size es)
+  unfolding entry_table
+  entries-tell es = rows_tell es 0

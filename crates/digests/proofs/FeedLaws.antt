@@ -46,7 +46,7 @@ some_bytes-++ [] u = refl
 some_bytes-++ (b ∷ t) u = refl
 
 -- a string that is appended and ended is absorbed
-ended-appended : (s t : List ℕ) → ended (appended s t) ≡ absorbed_unkeyed s t
+pub ended-appended : (s t : List ℕ) → ended (appended s t) ≡ absorbed_unkeyed s t
 unfolding appended ended absorbed_unkeyed
 ended-appended s [] = refl
 ended-appended s (b ∷ t) = ended-appended (after_byte s b) t

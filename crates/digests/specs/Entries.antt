@@ -1,7 +1,9 @@
 -- The entries of a call: the strings that they cut out of a buffer, and the refusal of one that lies outside.
 use Rattle.std.specs.Prelude.{ℕ, ◌+◌, Bool, cond, List, [], ◌∷◌, take, drop, Some, None, Ok, Err, Option, Result, nat_lt}
 use Rattle.refusals.specs.declared.Layer.TheVariants as layer
+use Rattle.refusals.specs.declared.Layer.{Layer}
 use Rattle.refusals.specs.declared.Refusal.{Refusal}
+use Rattle.refusals.specs.Tables.{Table, refusal_of}
 use Rattle.digests.specs.declared.entries.Entry.{Entry}
 use Rattle.digests.specs.declared.entries.EntryFault.{EntryFault}
 use Rattle.digests.specs.declared.entries.EntryFault.TheVariants.{Digest, Deck}
@@ -32,3 +34,12 @@ answered fault (Some i) = Err (fault i)
 abbrev pub told : EntryFault → Refusal
 told (Digest i) = record { number = 8; layer = layer.Digest; place = i }
 told (Deck i) = record { number = 8; layer = layer.Deck; place = i }
+
+-- When a call of a layer refuses: a row for each entry, whose place is its index, counted from i.
+abbrev pub entry_rows : Layer → ℕ → ℕ → List Entry → Table
+entry_rows layer i size [] = []
+entry_rows layer i size (e ∷ es) = (too_far size e, refusal_of layer 8 i) ∷ entry_rows layer (i + 1) size es
+
+-- the table of a call over a buffer of this size
+unfoldable pub entry_table : Layer → ℕ → List Entry → Table
+entry_table layer size es = entry_rows layer 0 size es

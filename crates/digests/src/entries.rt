@@ -6,6 +6,7 @@ use refusals::{Layer, Refusal};
 
 // `length` bytes of the buffer from `start` on.
 #[derive(Clone, Copy)]
+#[repr(C)]
 pub struct Entry {
     pub start: usize,
     pub length: usize,

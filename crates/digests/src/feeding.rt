@@ -1,7 +1,7 @@
 // A digest that is fed. Bytes are absorbed as they come.
-ghost use Rattle.std.specs.Prelude.{◌≡◌, false, ◌||◌, length};
+ghost use Rattle.std.specs.Prelude.{◌≡◌, ℕ, false, ◌||◌, List, length};
 ghost use Rattle.duplex.specs.State.{zeros};
-ghost use Rattle.duplex.specs.Strings.{squeezed, drained};
+ghost use Rattle.duplex.specs.Strings.{absorbed_unkeyed, squeezed, drained};
 ghost use Rattle.digests.specs.Feeding.{appended, ended, all_ended, finished, some_bytes};
 
 use duplex::Engine;
@@ -48,9 +48,10 @@ impl<E: Engine> Feeding<E> {
         }
     }
 
-    // Ends the string, which is empty where nothing was appended since the last end.
+    // Ends the string, which is empty where nothing was appended since the last end. What was appended is then absorbed as one unkeyed string.
     pub fn end_string(&mut self)
         ensures moved { E.Engine.bits self.new.duplex.engine ≡ ended (E.Engine.bits self.old.duplex.engine) }
+        ensures whole { (s t : List ℕ) → E.Engine.bits self.old.duplex.engine ≡ appended s t → E.Engine.bits self.new.duplex.engine ≡ absorbed_unkeyed s t }
         ensures begun { self.new.begun ≡ false }
     {
         self.duplex.blank(2);

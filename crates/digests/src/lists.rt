@@ -1,7 +1,9 @@
 // The digest and the deck function of a list of strings.
 ghost use Rattle.std.specs.Prelude.{◌≡◌, length, is_ok, if◌then◌else◌, None};
 ghost use Rattle.duplex.specs.Strings.{blanked, squeezed};
-ghost use Rattle.digests.specs.Entries.{outside, answered, cuts};
+ghost use Rattle.refusals.specs.declared.Layer.TheVariants as layer;
+ghost use Rattle.refusals.specs.Tables.{first_of, refused_by};
+ghost use Rattle.digests.specs.Entries.{outside, answered, cuts, told, entry_table};
 ghost use Rattle.digests.specs.Digests.{absorbed_by, absorbed_all, digested, decked};
 
 use crate::entries::{Entry, EntryFault, first_outside};
@@ -11,6 +13,7 @@ use strings::Duplex;
 // Fills `out` with the digest of the strings that the entries cut out of the buffer, in their order.
 pub fn digest<E: Engine>(buffer: &[u8], entries: &[Entry], out: &mut [u8]) -> Result<(), EntryFault>
     ensures answer { result ≡ answered EntryFault.Digest (outside 0 (length buffer.now) entries.now) }
+    ensures tells { refused_by told result ≡ first_of (entry_table layer.Digest (length buffer.now) entries.now) }
     ensures bytes { out.new ≡ (if is_ok result then digested (cuts buffer.now entries.now) (length out.old) else out.old) }
 {
     if let Some(entry) = first_outside(entries, buffer.len()) {
@@ -30,6 +33,7 @@ pub fn deck<E: Engine>(
     out: &mut [u8],
 ) -> Result<(), EntryFault>
     ensures answer { result ≡ answered EntryFault.Deck (outside 0 (length buffer.now) entries.now) }
+    ensures tells { refused_by told result ≡ first_of (entry_table layer.Deck (length buffer.now) entries.now) }
     ensures bytes { out.new ≡ (if is_ok result then decked key.now (cuts buffer.now entries.now) (length out.old) else out.old) }
 {
     if let Some(entry) = first_outside(entries, buffer.len()) {

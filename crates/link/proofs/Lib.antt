@@ -1,3 +1,4 @@
 pub mod Takings
 pub mod Writings
+pub mod Tellings
 pub mod Suite

@@ -128,7 +128,7 @@ module _ (m : Standing) (k : Kind) (t : List ℕ) where
   frame_opens = rw (frame_header, frame_body, frame_tag) (opens_sealed m.state ad t)
 
   -- what the sender writes is accepted
-  accepted_frame : m.number < largest_number → length t ≡ text_length k → (room : ℕ) → text_length k ≤ room → take_answer m (frame_of m k t) room ≡ Ok k
+  pub accepted_frame : m.number < largest_number → length t ≡ text_length k → (room : ℕ) → text_length k ≤ room → take_answer m (frame_of m k t) room ≡ Ok k
   accepted_frame below size room fits =
       let f = frame_of m k t in
       let n : length f ≡ text_length k + overhead = omega (arith, frame_length) in

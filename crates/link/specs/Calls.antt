@@ -11,7 +11,7 @@ use Rattle.link.specs.declared.fault.LinkFault.TheVariants.{Spent, Empty, Unknow
 use Rattle.link.specs.declared.receiving.ReceivingEnd.{ReceivingEnd}
 use Rattle.link.specs.declared.sending.SendingEnd.{SendingEnd}
 use Rattle.link.specs.Kinds.{text_length, kind_of}
-use Rattle.link.specs.Frames.{Standing, largest_number, overhead, header_in, number_in, body_in, tag_in, text_in}
+use Rattle.link.specs.Frames.{Standing, standing_of, largest_number, overhead, header_in, number_in, body_in, tag_in, text_in}
 use Rattle.link.specs.Sender.{frame_of, next_of}
 
 -- where an end stands, by what its engine means
@@ -21,6 +21,15 @@ module _ {E : Type 0} (bits : E → List ℕ) where
 
   abbrev pub sending : SendingEnd E → Standing
   sending r = record { state = session_bits bits r.session; number = r.number.value }
+
+-- Where an end stands, if there is one; and where one stands that goes on from bits and a number that were kept.
+
+abbrev pub placed : {X : Type 0} → (X → Standing) → Option X → Option Standing
+placed f None = None
+placed f (Some e) = Some (f e)
+
+abbrev pub resumed : List ℕ → ℕ → Option Standing
+resumed s n = cond (nat_lt largest_number n) None (Some (standing_of s n))
 
 -- the kind that passed the checks, or the first of them that failed
 abbrev pub Checked : Type 0

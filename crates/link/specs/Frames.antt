@@ -8,6 +8,9 @@ pub record Standing : Type 0 where
   pub state : List ℕ
   pub number : ℕ
 
+abbrev pub standing_of : List ℕ → ℕ → Standing
+standing_of s n = record { state = s; number = n }
+
 -- where an end begins
 unfoldable pub started : List ℕ → List ℕ → Standing
 started key nonce = record { state = begun key nonce; number = 0 }

@@ -3,3 +3,4 @@ pub mod Frames
 pub mod Sender
 pub mod Refusals
 pub mod Calls
+pub mod Figures

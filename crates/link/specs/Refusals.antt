@@ -1,12 +1,18 @@
--- The refusals of an end: number, layer and place of each.
-use Rattle.std.specs.Prelude.{ℕ, ◌+◌, ◌-◌, ◌^◌, min}
+-- The refusals of an end: number, layer and place of each, and when a call refuses.
+use Rattle.std.specs.Prelude.{ℕ, ◌+◌, ◌-◌, ◌^◌, min, Bool, not, List, [], ◌∷◌, length, is_some, ◌==◌, nat_lt, slice_index}
+use Rattle.std.specs.Option.{option_map, unwrap_or}
+use Rattle.std.specs.Str.{bytes_eq}
 use Rattle.refusals.specs.declared.Layer.{Layer}
 use Rattle.refusals.specs.declared.Layer.TheVariants.{Session, Link}
 use Rattle.refusals.specs.declared.Refusal.{Refusal}
+use Rattle.refusals.specs.Tables.{Table}
+use Rattle.duplex.specs.Strings.{word_bytes}
 use Rattle.session.specs.declared.fault.SessionFault.TheVariants.{Short, Tag}
+use Rattle.session.specs.Sessions.{opens}
 use Rattle.link.specs.declared.fault.LinkFault.{LinkFault}
 use Rattle.link.specs.declared.fault.LinkFault.TheVariants.{Spent, Empty, UnknownKind, WrongLength, ShortBuffer, WrongNumber, Session as InSession}
-use Rattle.link.specs.Frames.{header_length}
+use Rattle.link.specs.Kinds.{text_length, kind_of}
+use Rattle.link.specs.Frames.{Standing, largest_number, header_length, overhead, header_in, number_in, body_in, tag_in}
 
 abbrev by : Layer → ℕ → ℕ → Refusal
 by layer number place = record { number = number; layer = layer; place = place }
@@ -24,3 +30,32 @@ told (ShortBuffer room) = by Link 5 room
 told WrongNumber = by Link 6 1
 told (InSession (Short room)) = by Session 5 (in_frame room)
 told (InSession (Tag ciphertext)) = by Session 7 (in_frame ciphertext)
+
+-- Of a kind byte: it stands for no kind; the text length of its kind, or 0 for none.
+
+abbrev pub no_kind : ℕ → Bool
+no_kind b = not (is_some (kind_of b))
+
+abbrev pub length_for : ℕ → ℕ
+length_for b = unwrap_or (option_map text_length (kind_of b)) 0
+
+-- taking a frame f where an end stands, with room for so many bytes of text; its first byte is its kind's
+unfoldable pub take_table : Standing → List ℕ → ℕ → Table
+take_table m f room =
+    ((m.number == largest_number), by Link 1 0)
+    ∷ ((length f == 0), by Link 2 0)
+    ∷ (no_kind (slice_index f 0), by Link 3 0)
+    ∷ (not (length f == length_for (slice_index f 0) + overhead), by Link 4 (length f))
+    ∷ (nat_lt room (length_for (slice_index f 0)), by Link 5 room)
+    ∷ (not (bytes_eq (number_in f) (word_bytes m.number)), by Link 6 1)
+    ∷ (not (opens m.state (header_in f) (body_in f) (tag_in f)), by Session 7 (length (body_in f) + header_length))
+    ∷ []
+
+-- writing a text t of the kind with byte b where an end stands, with room for so many bytes of frame
+unfoldable pub write_table : Standing → ℕ → List ℕ → ℕ → Table
+write_table m b t room =
+    ((m.number == largest_number), by Link 1 0)
+    ∷ (no_kind b, by Link 3 0)
+    ∷ (not (length t == length_for b), by Link 4 (length t))
+    ∷ (nat_lt room (length_for b + overhead), by Link 5 room)
+    ∷ []

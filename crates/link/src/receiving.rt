@@ -1,8 +1,11 @@
 // The receiving end.
 ghost use Rattle.std.specs.Prelude.{◌≡◌, ℕ, length};
 ghost use Rattle.std.specs.Str.{bytes_eq};
-ghost use Rattle.link.specs.Frames.{Standing, started};
-ghost use Rattle.link.specs.Calls.{receiving, checked, fitting, take_answer, take_standing, take_text};
+ghost use Rattle.refusals.specs.Tables.{first_of, refused_by};
+ghost use Rattle.session.specs.Calls.{session_bits};
+ghost use Rattle.link.specs.Frames.{Standing, standing_of, started};
+ghost use Rattle.link.specs.Refusals.{told, take_table};
+ghost use Rattle.link.specs.Calls.{placed, resumed, receiving, checked, fitting, take_answer, take_standing, take_text};
 
 use crate::fault::LinkFault;
 use crate::frame::{HEADER, LARGEST, Number, TAG};
@@ -41,9 +44,31 @@ impl<E: Engine + Drop> ReceivingEnd<E> {
         self.tell()
     }
 
+    // Goes on with an end whose session and number were kept elsewhere, unless the number is too large. Nothing here knows whether another end goes on from the same place.
+    pub unsafe fn resume(session: Session<E>, number: u32) -> Option<ReceivingEnd<E>>
+        ensures { placed (receiving E.bits) result ≡ resumed (session_bits E.bits session) number }
+    {
+        if number > LARGEST {
+            return None;
+        }
+        Some(ReceivingEnd {
+            session,
+            number: Number { value: number },
+        })
+    }
+
+    // Gives up the end, so that its session and number can be kept elsewhere.
+    pub fn suspend(self) -> (Session<E>, u32)
+        ensures { standing_of (session_bits E.bits result.0) result.1 ≡ receiving E.bits self }
+    {
+        let ReceivingEnd { session, number } = self;
+        (session, number.value)
+    }
+
     // Takes a frame: its text stands at the front of `text`, and its kind is answered. The frame is opened on a copy of the session, so that a refusal leaves the end as it was.
     pub fn take(&mut self, frame: &[u8], text: &mut [u8]) -> Result<Kind, LinkFault>
         ensures value { result ≡ take_answer (receiving E.bits self.old) frame.now (length text.old) }
+        ensures tells { refused_by told result ≡ first_of (take_table (receiving E.bits self.old) frame.now (length text.old)) }
         ensures moved { receiving E.bits self.new ≡ take_standing (receiving E.bits self.old) frame.now result }
         ensures text { text.new ≡ take_text (receiving E.bits self.old) frame.now text.old result }
     {

@@ -1,9 +1,11 @@
 // The sending end.
 ghost use Rattle.std.specs.Prelude.{◌≡◌, ◌+◌, ◌++◌, length, Ok};
+ghost use Rattle.refusals.specs.Tables.{first_of, refused_by};
 ghost use Rattle.session.specs.Calls.{session_bits};
 ghost use Rattle.session.specs.Sessions.{cipher, tag_of, after};
-ghost use Rattle.link.specs.Frames.{Standing, started};
-ghost use Rattle.link.specs.Calls.{sending, vetted, write_answer, write_standing, write_out};
+ghost use Rattle.link.specs.Frames.{Standing, standing_of, started};
+ghost use Rattle.link.specs.Refusals.{told, write_table};
+ghost use Rattle.link.specs.Calls.{placed, resumed, sending, vetted, write_answer, write_standing, write_out};
 
 use crate::fault::LinkFault;
 use crate::frame::{HEADER, LARGEST, Number, OVERHEAD, TAG, header};
@@ -42,6 +44,27 @@ impl<E: Engine + Drop> SendingEnd<E> {
         self.tell()
     }
 
+    // Goes on with an end whose session and number were kept elsewhere, unless the number is too large. Nothing here knows whether another end goes on from the same place.
+    pub unsafe fn resume(session: Session<E>, number: u32) -> Option<SendingEnd<E>>
+        ensures { placed (sending E.bits) result ≡ resumed (session_bits E.bits session) number }
+    {
+        if number > LARGEST {
+            return None;
+        }
+        Some(SendingEnd {
+            session,
+            number: Number { value: number },
+        })
+    }
+
+    // Gives up the end, so that its session and number can be kept elsewhere.
+    pub fn suspend(self) -> (Session<E>, u32)
+        ensures { standing_of (session_bits E.bits result.0) result.1 ≡ sending E.bits self }
+    {
+        let SendingEnd { session, number } = self;
+        (session, number.value)
+    }
+
     // Writes the frame of a text to the front of `out`, and answers its length and the number that it carries.
     pub fn write(
         &mut self,
@@ -50,6 +73,7 @@ impl<E: Engine + Drop> SendingEnd<E> {
         out: &mut [u8],
     ) -> Result<(usize, u32), LinkFault>
         ensures value { result ≡ write_answer (sending E.bits self.old) kind text.now (length out.old) }
+        ensures tells { refused_by told result ≡ first_of (write_table (sending E.bits self.old) kind text.now (length out.old)) }
         ensures moved { sending E.bits self.new ≡ write_standing (sending E.bits self.old) kind text.now (length out.old) }
         ensures out { out.new ≡ write_out (sending E.bits self.old) kind text.now out.old }
     {

@@ -1,5 +1,5 @@
 -- Sealing and opening undo each other, and what the calls answer, case by case.
-use Rattle.std.proofs.Common.{◌≡◌, ℕ, ◌<◌, ◌≤◌, Bool, true, false, cond, ltb, List, ◌++◌, length, take, drop, Ok, Err, sym, refl, ap, ◌∙◌, ap₂, arith}
+use Rattle.std.proofs.Common.{◌≡◌, ℕ, ◌<◌, ◌≤◌, Bool, true, false, cond, not, ltb, List, [], ◌∷◌, ◌++◌, length, take, drop, Ok, Err, sym, refl, ap, ◌∙◌, ap₂, arith}
 use Rattle.std.specs.Str.{bytes_eq}
 use Rattle.std.proofs.lemmas.Slice.Eq.{bytes_eq-Decides}
 use Rattle.std.proofs.lemmas.List.{take_at}
@@ -8,6 +8,8 @@ use Rattle.duplex.specs.Strings.{absorbed, deciphered, blanked, squeezed, readin
 use Rattle.strings.proofs.Blocks.{deciphered-enciphered, enciphered-deciphered, length-enciphered, length-deciphered}
 use Rattle.session.specs.declared.fault.SessionFault.{SessionFault}
 use Rattle.session.specs.declared.fault.SessionFault.TheVariants.{Short, Tag}
+use Rattle.refusals.specs.Tables.{first_of, refused_by}
+use Rattle.session.specs.Refusals.{told, seal_table, open_table}
 use Rattle.session.specs.Sessions.{cipher, tag_of, after, plain, opens, shown}
 use Rattle.session.specs.Calls.{Answer, seal_answer, verdict, open_answer, open_bits, open_out, ReadsBack, OnlySealed}
 
@@ -116,3 +118,22 @@ module _ (s ad c tag old : List ℕ) (r : Answer) (s' new : List ℕ) (value : r
         same_tag = opens_tag s ad c tag a.1 ∙ ap (tag_of s ad) t;
         stands = moved ∙ (ap (open_bits s ad c) e ∙ ap (after s ad) t);
       }
+
+-- What the answers tell: the first row of the table whose condition holds.
+
+pub seal_tells : (text : List ℕ) (room : ℕ) (r : Answer) → r ≡ seal_answer text room → refused_by told r ≡ first_of (seal_table text room)
+unfolding seal_answer seal_table
+seal_tells text room r e = ap (refused_by told) e ∙ at (ltb room (length text))
+  where
+    at : (short : Bool) → refused_by told (cond short (Err (Short room)) (Ok (length text))) ≡ first_of ((short, told (Short room)) ∷ [])
+    at true = refl
+    at false = refl
+
+pub open_tells : (s ad c tag : List ℕ) (room : ℕ) (r : Answer) → r ≡ open_answer s ad c tag room → refused_by told r ≡ first_of (open_table s ad c tag room)
+unfolding open_answer open_table
+open_tells s ad c tag room r e = ap (refused_by told) e ∙ at (ltb room (length c)) (opens s ad c tag)
+  where
+    at : (short accepted : Bool) → refused_by told (cond short (Err (Short room)) (verdict c accepted)) ≡ first_of ((short, told (Short room)) ∷ (not accepted, told (Tag (length c))) ∷ [])
+    at true accepted = refl
+    at false true = refl
+    at false false = refl

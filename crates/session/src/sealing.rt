@@ -1,6 +1,8 @@
 // Keyed states and sessions. The order of the calls is in the types: only what was given a nonce can seal and open.
 ghost use Rattle.std.specs.Prelude.{◌≡◌, length};
 ghost use Rattle.duplex.specs.Strings.{blanked, squeezed, drained};
+ghost use Rattle.refusals.specs.Tables.{first_of, refused_by};
+ghost use Rattle.session.specs.Refusals.{told, seal_table, open_table};
 ghost use Rattle.session.specs.Sessions.{keyed, given, begun, cipher, tag_of, after, plain, opens, shown};
 ghost use Rattle.session.specs.Calls.{keyed_bits, session_bits, seal_answer, seal_bits, seal_out, seal_tag, verdict, open_answer, open_bits, open_out, ReadsBack, OnlySealed};
 
@@ -61,6 +63,24 @@ impl<E: Engine> Session<E> {
         }
     }
 
+    // Goes on with a session whose bits were kept elsewhere. Nothing here knows whether a nonce was given, or whether another session goes on from the same bits.
+    pub unsafe fn resume(engine: E) -> Session<E>
+        ensures { session_bits E.bits result ≡ E.bits engine }
+    {
+        Session {
+            duplex: Duplex { engine },
+        }
+    }
+
+    // Gives up the session, so that its bits can be kept elsewhere.
+    pub fn suspend(self) -> E
+        ensures { E.bits result ≡ session_bits E.bits self }
+    {
+        let Session { duplex } = self;
+        let Duplex { engine } = duplex;
+        engine
+    }
+
     // Seals a text into the front of `out`, writes its tag, and answers its length.
     pub fn seal(
         &mut self,
@@ -70,6 +90,7 @@ impl<E: Engine> Session<E> {
         tag: &mut Tag,
     ) -> Result<usize, SessionFault>
         ensures value { result ≡ seal_answer text.now (length out.old) }
+        ensures tells { refused_by told result ≡ first_of (seal_table text.now (length out.old)) }
         ensures moved { session_bits E.bits self.new ≡ seal_bits (session_bits E.bits self.old) ad.now text.now result }
         ensures out { out.new ≡ seal_out (session_bits E.bits self.old) ad.now text.now out.old result }
         ensures tag { tag.new.bytes ≡ seal_tag (session_bits E.bits self.old) ad.now text.now tag.old.bytes result }
@@ -90,6 +111,7 @@ impl<E: Engine> Session<E> {
         out: &mut [u8],
     ) -> Result<usize, SessionFault>
         ensures value { result ≡ open_answer (session_bits E.bits self.old) ad.now ciphertext.now tag.now.bytes (length out.old) }
+        ensures tells { refused_by told result ≡ first_of (open_table (session_bits E.bits self.old) ad.now ciphertext.now tag.now.bytes (length out.old)) }
         ensures moved { session_bits E.bits self.new ≡ open_bits (session_bits E.bits self.old) ad.now ciphertext.now result }
         ensures out { out.new ≡ open_out (session_bits E.bits self.old) ad.now ciphertext.now out.old result }
         ensures back { ReadsBack (session_bits E.bits self.old) ad.now ciphertext.now tag.now.bytes out.old result (session_bits E.bits self.new) out.new }

@@ -7,6 +7,7 @@ use Rattle.session.specs.Calls.{open_out}
 use Rattle.link.specs.declared.fault.LinkFault.TheVariants.{Session}
 use Rattle.link.specs.Frames.{header_in}
 use Rattle.link.specs.Calls.{receiving, take_standing, take_text}
+use Rattle.link.proofs.Tellings.{take_tells}
 use Rattle.link.proofs.Takings.{passes, quiet, answer_err, took_ok, took_tag, zeroed, body_is, tag_is}
 use Rattle.link.proofs.receiving.ReceivingEnd.take.Goals as goal
 
@@ -19,8 +20,10 @@ returns-in_err-kind g c =
     let h = c.in_err-kind.ensures in
     let p = err_from_is_err_and c.from_residual.result c.from_residual.ensures.1 in
     let r : c.from_residual.result ≡ Err e = p.1 ∙ ap Err p.2 in
+    let value = r ∙ answer_err m f (length old) e h in
     record {
-      value = r ∙ answer_err m f (length old) e h;
+      value = value;
+      tells = take_tells m f (length old) (omega arith) _ value;
       moved = sym (ap (take_standing m f) r);
       text = sym (ap (take_text m f old) r ∙ quiet m f (length old) old e h);
     }
@@ -57,8 +60,10 @@ returns-in_err-open g c =
     let t = took_tag m f old s _ _ k same et eb h y c.in_err-open.ensures.value in
     let p = err_from_is_err_and c.from_residual-in_err-open.result c.from_residual-in_err-open.ensures.1 in
     let r : c.from_residual-in_err-open.result ≡ Err (Session y) = p.1 ∙ ap Err p.2 in
+    let value = r ∙ t.1 in
     record {
-      value = r ∙ t.1;
+      value = value;
+      tells = take_tells m f (length old) (omega arith) _ value;
       moved = sym (ap (take_standing m f) r);
       text = c.in_err-open.ensures.out ∙ (ap (λ z. open_out s (header_in f) (take (length f - 16 - 5) (drop 5 f)) old (Err z)) t.0 ∙ (zeroed m f old s _ _ k same et eb h ∙ sym (ap (take_text m f old) r)));
     }
@@ -79,6 +84,7 @@ returns g c =
     let text = ap₂ (λ x b. plain x (header_in f) b) same eb in
     record {
       value = t.1;
+      tells = take_tells m f (length old) (omega arith) _ t.1;
       moved = ap (λ x. record { state = x; number = m.number + 1 }) (c.in_ok-open.ensures.moved ∙ ap₂ (λ x y. after x (header_in f) y) same text);
       text = c.in_ok-open.ensures.out ∙ ap₂ (λ x i. x ++ drop i old) text t.0;
     }

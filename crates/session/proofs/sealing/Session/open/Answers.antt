@@ -3,13 +3,13 @@ use Rattle.std.proofs.Common.{◌++◌, length, drop, sym, refl, ap, ◌∙◌, 
 use native.Mathlib.Nat.{sub-zero}
 use Rattle.session.specs.Sessions.{opens}
 use Rattle.session.specs.Calls.{open_bits, open_out}
-use Rattle.session.proofs.SessionLaws.{open_short, open_fits, verdict-bits, verdict_out, reads_back, only_sealed}
+use Rattle.session.proofs.SessionLaws.{open_short, open_fits, verdict-bits, verdict_out, reads_back, only_sealed, open_tells}
 use Rattle.session.proofs.sealing.Session.open.Goals as goal
 
 pub returns-then-out-ciphertext : goal.returns-then-out-ciphertext
 returns-then-out-ciphertext g c =
     let value = sym (open_short _ _ _ _ _ c.if-out-ciphertext.true) in
-    record { value = value; moved = refl; out = refl; back = reads_back _ _ _ _ _ _ _ _ value refl refl; only = only_sealed _ _ _ _ c.args.out.now _ _ _ value refl refl }
+    record { value = value; tells = open_tells _ _ _ _ _ _ value; moved = refl; out = refl; back = reads_back _ _ _ _ _ _ _ _ value refl refl; only = only_sealed _ _ _ _ c.args.out.now _ _ _ value refl refl }
 
 pub returns : goal.returns
 returns g c =
@@ -26,6 +26,7 @@ returns g c =
     ∙ sym (ap (open_out s ad given old) verdict ∙ verdict_out s ad given old accepted) in
     record {
       value = value;
+      tells = open_tells s ad given _ (length old) _ value;
       moved = moved;
       out = out;
       back = reads_back _ _ _ _ _ _ _ _ value moved out;
