@@ -1,8 +1,8 @@
 -- Sessions and ends in memory that the caller lends: a mark, the 257 bits in 33 bytes and, of an end, its number in four.
 use Rattle.std.specs.Prelude.{ℕ, ◌+◌, ◌*◌, cond, List, ◌∷◌, ◌++◌, length, take, drop, Ok, Err, Result, ◌==◌, nat_lt, slice_index}
-use Rattle.duplex.specs.Bytes.{bytes-of-state, state-of-bytes}
+use Rattle.duplex.specs.Bytes.{bytes_of_state, state_of_bytes}
 use Rattle.duplex.specs.Strings.{word_bytes}
-use Rattle.link.specs.Frames.{Standing, standing-of, number-limit}
+use Rattle.link.specs.Frames.{Standing, standing_of, largest_number}
 use Rattle.cowslip.specs.declared.fault.CallFault.{CallFault}
 use Rattle.cowslip.specs.declared.fault.CallFault.TheVariants.{Length, Memory}
 
@@ -26,15 +26,15 @@ end_size = 38
 -- What a session and an end leave in their memory.
 
 abbrev pub kept_session : List ℕ → List ℕ
-kept_session s = session_mark ∷ bytes-of-state s
+kept_session s = session_mark ∷ bytes_of_state s
 
 abbrev pub kept_end : ℕ → Standing → List ℕ
-kept_end mark m = mark ∷ (bytes-of-state m.state ++ word_bytes m.number)
+kept_end mark m = mark ∷ (bytes_of_state m.state ++ word_bytes m.number)
 
 -- What a call finds there: a fault, unless the mark is right and the number not too large.
 
 abbrev pub bits_in : ℕ → List ℕ → Result (List ℕ) CallFault
-bits_in mark memory = cond (slice_index memory 0 == mark) (Ok (state-of-bytes (take 33 (drop 1 memory)))) (Err Memory)
+bits_in mark memory = cond (slice_index memory 0 == mark) (Ok (state_of_bytes (take 33 (drop 1 memory)))) (Err Memory)
 
 abbrev pub session_in : List ℕ → Result (List ℕ) CallFault
 session_in memory = bits_in session_mark memory
@@ -44,7 +44,7 @@ abbrev pub number_at : List ℕ → ℕ
 number_at memory = slice_index memory 34 + slice_index memory 35 * 256 + slice_index memory 36 * 65536 + slice_index memory 37 * 16777216
 
 abbrev pub with_number : ℕ → Result (List ℕ) CallFault → Result Standing CallFault
-with_number n (Ok s) = cond (nat_lt number-limit n) (Err Memory) (Ok (standing-of s n))
+with_number n (Ok s) = cond (nat_lt largest_number n) (Err Memory) (Ok (standing_of s n))
 with_number n (Err e) = Err e
 
 abbrev pub end_in : ℕ → List ℕ → Result Standing CallFault

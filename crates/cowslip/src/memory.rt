@@ -1,12 +1,11 @@
 // Sessions and ends in memory that the caller lends.
 ghost use Rattle.std.specs.Prelude.{◌≡◌, ℕ, ◌≤◌, ◌∷◌, ◌++◌, length, drop, Ok};
-ghost use Rattle.duplex.specs.Bytes.{bytes-of-state, state-of-bytes};
+ghost use Rattle.duplex.specs.Bytes.{bytes_of_state, state_of_bytes};
 ghost use Rattle.postponed.specs.Meaning.{meant};
 ghost use Rattle.session.specs.Calls.{session_bits};
 ghost use Rattle.link.specs.Calls.{placed, resumed, sending, receiving};
-ghost use Rattle.link.specs.Frames.{Standing, standing-of, started, number-limit};
+ghost use Rattle.link.specs.Frames.{Standing, standing_of, started, largest_number};
 ghost use Rattle.cowslip.specs.Memory.{sender_mark, receiver_mark, kept_session, kept_end, bits_in, session_in, end_in, found};
-ghost use Rattle.std.proofs.Common.{rules};
 
 use crate::fault::CallFault;
 use link::{ReceivingEnd, SendingEnd};
@@ -41,8 +40,8 @@ fn load(memory: &[u8], mark: u8) -> Result<Postponed, CallFault>
 // Writes a mark and bits to the front of the memory.
 fn store(memory: &mut [u8], mark: u8, engine: &Postponed)
     requires { 34 ≤ length memory.old }
-    ensures memory { memory.new ≡ mark ∷ (bytes-of-state (meant engine.now) ++ drop 34 memory.old) }
-    ensures back { state-of-bytes (bytes-of-state (meant engine.now)) ≡ meant engine.now }
+    ensures memory { memory.new ≡ mark ∷ (bytes_of_state (meant engine.now) ++ drop 34 memory.old) }
+    ensures back { state_of_bytes (bytes_of_state (meant engine.now)) ≡ meant engine.now }
 {
     memory[0] = mark;
     memory[1..34].copy_from_slice(&engine.to_bytes());
@@ -81,12 +80,12 @@ pub(crate) trait End: Drop {
         ensures { placed stands result ≡ resumed (session_bits meant session) number };
 
     fn into_parts(self) -> (Session<Postponed>, u32)
-        ensures { standing-of (session_bits meant result.0) result.1 ≡ stands self };
+        ensures { standing_of (session_bits meant result.0) result.1 ≡ stands self };
 
     fn number(&self) -> u32
         ensures { result ≡ (stands self.now).number };
 
-    ghost within: { (e : Self) → (stands e).number ≤ number-limit };
+    ghost within: { (e : Self) → (stands e).number ≤ largest_number };
 }
 
 impl End for SendingEnd<Postponed> {
@@ -94,7 +93,7 @@ impl End for SendingEnd<Postponed> {
 
     ghost stands = { sending meant };
 
-    ghost within = { Prim.search rules };
+    ghost within = { λ e. e.number.within };
 
     fn first_byte() -> u8 {
         SENDER
@@ -122,7 +121,7 @@ impl End for ReceivingEnd<Postponed> {
 
     ghost stands = { receiving meant };
 
-    ghost within = { Prim.search rules };
+    ghost within = { λ e. e.number.within };
 
     fn first_byte() -> u8 {
         RECEIVER

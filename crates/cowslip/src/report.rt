@@ -38,9 +38,9 @@ pub(crate) fn report(outcome: Result<Answer, CallFault>, numbers: &mut [usize]) 
             0
         }
         Err(fault) => {
-            let refusal = fault.refusal();
-            put(numbers, 0, refusal.place);
-            u32::from(refusal.number)
+            let told = fault.told();
+            put(numbers, 0, told.place);
+            u32::from(told.number)
         }
     }
 }
