@@ -5,7 +5,7 @@ use Rattle.link.proofs.Takings.{Seen, seen_is, checked_kind}
 use Rattle.link.proofs.receiving.check.Goals as goal
 
 pub returns-then-number-ge-LARGEST : goal.returns-then-number-ge-LARGEST
-returns-then-number-ge-LARGEST c = seen_is _ _ _ (Seen.spent c.if-number-ge-LARGEST.true)
+returns-then-number-ge-LARGEST c = seen_is _ _ _ (Seen.spent (omega arith))
 
 pub returns-then-is_empty : goal.returns-then-is_empty
 returns-then-is_empty c =

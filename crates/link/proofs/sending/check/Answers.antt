@@ -6,7 +6,7 @@ use Rattle.link.proofs.Writings.{Vetted, vetted_is}
 use Rattle.link.proofs.sending.check.Goals as goal
 
 pub returns-then-number-ge-LARGEST : goal.returns-then-number-ge-LARGEST
-returns-then-number-ge-LARGEST c = vetted_is _ _ _ _ _ (Vetted.spent c.if-number-ge-LARGEST.true)
+returns-then-number-ge-LARGEST c = vetted_is _ _ _ _ _ (Vetted.spent (omega arith))
 
 pub returns-in_default : goal.returns-in_default
 returns-in_default c = let e : kind_of c.args.kind ≡ None = cc in vetted_is _ _ _ _ _ (Vetted.unknown c.if-number-ge-LARGEST.false e)
