@@ -1,6 +1,5 @@
 -- What the calls from C promise: the number returned, the numbers told, and every byte of the memory and of the buffers.
 use Rattle.std.specs.Prelude.{ℕ, List, length, Ok, Err, Result, slice_set}
-use Rattle.cowslip.specs.declared.fault.Told.{Told}
 use Rattle.session.specs.declared.fault.SessionFault.{SessionFault}
 use Rattle.session.specs.declared.fault.SessionFault.TheVariants.{Short, Tag}
 use Rattle.session.specs.declared.values.Key.{Key}

@@ -1,5 +1,5 @@
 -- Sessions and ends in memory that the caller lends: a mark, the 257 bits in 33 bytes and, of an end, its number in four.
-use Rattle.std.specs.Prelude.{ℕ, ◌+◌, ◌*◌, cond, List, ◌∷◌, ◌++◌, length, take, drop, Ok, Err, Result, ◌==◌, nat_lt, slice_index}
+use Rattle.std.specs.Prelude.{ℕ, ◌+◌, ◌*◌, cond, List, ◌∷◌, ◌++◌, take, drop, Ok, Err, Result, ◌==◌, nat_lt, slice_index}
 use Rattle.duplex.specs.Bytes.{bytes_of_state, state_of_bytes}
 use Rattle.duplex.specs.Strings.{word_bytes}
 use Rattle.link.specs.Frames.{Standing, standing_of, largest_number}

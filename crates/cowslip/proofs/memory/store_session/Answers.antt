@@ -1,5 +1,5 @@
 -- The mark and the bits fill the memory, and are found there again.
-use Rattle.std.proofs.Common.{◌≡◌, [], Ok, ap, ◌∙◌, subst, arith}
+use Rattle.std.proofs.Common.{◌≡◌, ap, ◌∙◌, subst, arith}
 use Rattle.duplex.specs.Bytes.{bytes_of_state, state_of_bytes}
 use Rattle.postponed.specs.Meaning.{meant}
 use Rattle.session.specs.Calls.{session_bits}
