@@ -41,7 +41,7 @@ unfoldable pub with_string : Command → List ℕ → Result Command Fault
 with_string command [] = Ok command
 with_string command (c ∷ digits) = cond (c == (char_of " ")) (unless (hex_fault digits) command) (Err Byte)
 
--- a count from 0 to 64 in one or two digits
+-- a count: one digit or two, with a value of at most 64
 abbrev pub up_to_64 : ℕ → Result ℕ Fault
 up_to_64 n = cond (nat_le n 64) (Ok n) (Err Count)
 

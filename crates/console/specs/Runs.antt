@@ -4,7 +4,7 @@ use Rattle.duplex.specs.State.{zeros}
 use Rattle.console.specs.Buffers.{kept}
 use Rattle.console.specs.Replies.{line_feed, line_bits, printed}
 
--- the lines of an input, the first of which has begun already: a line feed ends a line, and a last line that is not empty may lack it
+-- the lines of an input, the first of which has begun already: line feeds part them, and bytes after the last line feed are a line too, unless there are none
 unfoldable pub lines_of : List ℕ → List ℕ → List (List ℕ)
 lines_of begun [] = cond (length begun == 0) [] (begun ∷ [])
 lines_of begun (b ∷ bs) = cond (b == line_feed) (begun ∷ lines_of [] bs) (lines_of (begun ++ b ∷ []) bs)

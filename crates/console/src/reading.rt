@@ -60,7 +60,7 @@ fn with_hex(command: Command, rest: &[u8]) -> Result<Command, Fault>
     }
 }
 
-// A count from 0 to 64 in one or two digits.
+// A count: one digit or two, with a value of at most 64.
 fn count(digits: &[u8]) -> Result<u8, Fault>
     ensures { result ≡ count_digits digits.now }
 {

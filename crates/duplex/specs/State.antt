@@ -1,5 +1,5 @@
 -- The duplex state of Subterranean 2.0: its round, the step with a block and the reading of a word.
--- A state is a list of 257 bits, each 0 or 1. `⊕` adds two bits (exclusive or), `⊗` multiplies them (and).
+-- A bit is the number 0 or 1, and a state is a list of 257 of them. `⊕` adds two bits (exclusive or), `⊗` multiplies them (and).
 use Rattle.std.specs.Prelude.{◌≡◌, ℕ, ◌+◌, ◌-◌, ◌*◌, ◌/◌, ◌%◌, ◌^◌, ◌<◌, cond, List, [], ◌∷◌, map, length, replicate, ◌==◌, bit_and, bit_xor, slice_index, slice_index_or, slice_set}
 use Rattle.std.specs.List.{range_with_len}
 
@@ -27,7 +27,7 @@ state f = map f (range_with_len 0 257)
 abbrev pub zeros : List ℕ
 zeros = replicate 257 0
 
--- The round: four steps, each on the whole state that the one before left.
+-- The round. It has four parts; each makes a whole new state out of the one that it is given.
 
 abbrev pub chi_bit : List ℕ → ℕ → ℕ
 chi_bit s i = at s i ⊕ (at s (i + 1) ⊕ 1) ⊗ at s (i + 2)

@@ -21,7 +21,7 @@ pub record FrameFigures : Type 0 where
   -- a kind's byte stands for it, and a buffer of the least room holds its text
   pub byte_of_kind : (k : Kind) → kind_of (kind_byte k) ≡ Some k
   pub room_for_kind : (k : Kind) → text_length k ≤ least_room
-  -- a heartbeat has 21 bytes; 20 and 22 are refused
+  -- the frame of a heartbeat is 21 bytes long, and one of a byte less or more is refused
   pub heartbeat : (m : Standing) → length (frame_of m Heartbeat []) ≡ 21
   pub heartbeat_20 : (m : Standing) (f : List ℕ) (room : ℕ) → m.number < 1000000 → slice_index f 0 ≡ 0x06 → length f ≡ 20 → Refuses (take_answer m f room) Link 4 20
   pub heartbeat_22 : (m : Standing) (f : List ℕ) (room : ℕ) → m.number < 1000000 → slice_index f 0 ≡ 0x06 → length f ≡ 22 → Refuses (take_answer m f room) Link 4 22

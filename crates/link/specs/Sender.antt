@@ -35,6 +35,6 @@ writes m b t = written m (kind_of b) t
 unfoldable pub fed : Standing → ℕ → List ℕ → Standing
 fed m b t = held m (kind_of b) t
 
--- It could write a frame next when some kind and text, fed now, give these very bytes.
+-- A frame that it could write next: for some kind byte and text, what it would write now is this frame.
 abbrev pub CouldWrite : Standing → List ℕ → Type 0
 CouldWrite m f = (b : ℕ) × (t : List ℕ) × (writes m b t ≡ Some f)

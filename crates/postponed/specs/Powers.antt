@@ -8,7 +8,7 @@ power_of_12 n = 12 ^ n % 257
 unfoldable pub powers_of_12 : List ℕ
 powers_of_12 = map power_of_12 (range_with_len 0 256)
 
--- 256 numbers: the first is 1, each next is 12 times its forerunner modulo 257, no two are equal, and the last leads back to 1
+-- the rule of the table: it begins with 1, every later entry is 12 times the one before it (mod 257), no value comes twice, and 12 times the last of its 256 entries is 1 again
 pub record IsPowers (t : List ℕ) : Type 0 where
   pub long : length t ≡ 256
   pub first : slice_index_or t 0 0 ≡ 1

@@ -1,4 +1,4 @@
-// The postponed engine: packed bits a, and the count n of shuffles that are owed. State bit i is a(12^n × i).
+// The postponed engine: packed bits a, and the count n of shuffles that are owed. Bit i of the state is found at a(12^n × i).
 ghost use Rattle.std.specs.Prelude.{◌≡◌, ◌+◌, ◌%◌, ◌^◌};
 ghost use Rattle.duplex.specs.State.{step};
 ghost use Rattle.words.specs.Packing.{cells, inject_by, round_by};

@@ -120,12 +120,12 @@ pub record Agreed (key nonce : List ℕ) (calls calls' again again' : List Excha
   pub each_call : Along OneTaking (started key nonce) calls calls' first
   pub each_again : Along OneTaking (started key nonce) again again' second
   pub each_order : Along OneWriting (started key nonce) orders orders' sender
-  -- a frame is accepted exactly when the suite's sender could write it next, and each number told is the count of frames accepted so far
+  -- a frame is accepted exactly when the suite's sender could write it next, each number told is the count of frames accepted so far, and the end stands where that sender does
   pub exact : Roomy calls → Heard (started key nonce) 0 (map asked calls) (map said calls') first first.number
   -- given the list without the refused frames, the second end answers the rest alike and stands alike
   pub alike : Roomy calls → Roomy again → map asked again ≡ kept (map asked calls) (map said calls')
       → (map said again' ≡ spoken (map said calls')) × (second ≡ first)
-  -- the sending end writes just what the suite's sender writes
+  -- the sending end writes just what the suite's sender writes, and stands where that one does
   pub same : Sent (started key nonce) 0 (map ordered orders) (map done orders') sender sender.number
   -- where the accepted frames are all the written ones, both ends stand together and tell their count
   pub together : Roomy calls → accepted (map asked calls) (map said calls') ≡ frames (map done orders')

@@ -43,11 +43,13 @@ round_by c s = theta_by c (iota (chi_by c s))
 abbrev pub place_by : ℕ → ℕ → ℕ
 place_by c j = c * position j % 257
 
+-- bit j of x added at c times position j
 unfoldable pub inject_by : ℕ → List ℕ → ℕ → List ℕ
 inject_by c s x = add_bits (place_by c) x s (range_with_len 0 33)
 
 abbrev pub read_bit_by : ℕ → List ℕ → ℕ → ℕ
 read_bit_by c s j = at s (c * position j) ⊕ at s (c * (257 - position j))
 
+-- the reading at c times the positions
 unfoldable pub reading_by : ℕ → List ℕ → ℕ
 reading_by c s = number (map (read_bit_by c s) (range_with_len 0 32))

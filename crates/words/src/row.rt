@@ -1,4 +1,4 @@
-// The 257 bits twice in a row of 18 words, from which a rotation by any distance is nine shifted reads.
+// A row of 18 words that has the 257 bits twice, one copy after the other; from it a rotation by any distance is nine shifted reads.
 ghost use Rattle.std.specs.Prelude.{◌≡◌, ℕ, ◌%◌, ◌<◌, length};
 ghost use Rattle.words.specs.Packing.{word_bit, cells, rotated};
 

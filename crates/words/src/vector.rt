@@ -1,11 +1,11 @@
-// The 257 bits in nine words: bit i in word i div 32, place i mod 32.
+// The 257 bits in nine words, 32 to a word, the lowest first.
 ghost use Rattle.std.specs.Prelude.{◌≡◌, ◌%◌, ◌<◌, length, slice_index};
 ghost use Rattle.duplex.specs.State.{zeros, add_at};
 ghost use Rattle.words.specs.Packing.{cells};
 
 use crate::residue::Residue;
 
-// The 31 high bits of the last word are zero.
+// Of the last word only the lowest bit is used; the others are 0.
 #[derive(Clone, Copy)]
 pub struct Words {
     pub(crate) array: [u32; 9],
