@@ -30,9 +30,6 @@ pub add_bits_more : (p : ℕ → ℕ) (x : ℕ) (s : List ℕ) (j : ℕ) → j <
     → add_bits p x s (range_with_len j (33 - j)) ≡ add_bits p x (add_at s (p j) (bit x j)) (range_with_len (j + 1) (33 - (j + 1)))
 add_bits_more p x s j h = let e : 33 - j ≡ suc (33 - (j + 1)) = omega arith in ap (λ n. add_bits p x s (range_with_len j n)) e
 
-pub add_bits_all : (p : ℕ → ℕ) (x : ℕ) (s : List ℕ) (j : ℕ) → 33 ≤ j → add_bits p x s (range_with_len j (33 - j)) ≡ s
-add_bits_all p x s j h = let e : 33 - j ≡ 0 = omega arith in ap (λ n. add_bits p x s (range_with_len j n)) e
-
 -- past the highest bit nothing is added
 pub add_bits_none : (p : ℕ → ℕ) (x : ℕ) (s : List ℕ) (n j : ℕ) → x / 2 ^ j ≡ 0 → add_bits p x s (range_with_len j n) ≡ s
 add_bits_none p x s zero j h = refl

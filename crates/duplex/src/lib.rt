@@ -26,7 +26,7 @@ pub trait Engine: Drop {
     fn read(&self) -> u32
         ensures { result ≡ reading (bits self.now) };
 
-    // A second value that means the same bits.
+    // A second value that means the same bits. It is neither `Clone`, which can fail in Rattle, nor `Copy`, a bound that would ask more of an engine.
     fn copy(&self) -> Self
         ensures { bits result ≡ bits self.now };
 

@@ -8,7 +8,7 @@ use Rattle.duplex.specs.State.{position, positions}
 use Rattle.duplex.proofs.StepLaws.{getD_positions, position_range}
 use Rattle.duplex.proofs.Tables.{every, every_at}
 use Rattle.words.specs.Packing.{place_by}
-use Rattle.words.specs.ModLaws.{cut_left, cut_right}
+use Rattle.words.specs.ModLaws.{cut_right}
 use Rattle.postponed.specs.Powers.{IsPowers, power_of_12, powers_of_12, place_of, logarithms_of_12}
 
 -- the entry after x, the table taken as a ring, is 12 times x
@@ -79,23 +79,10 @@ position_below t j e =
     (λ l. subst (λ p. p < 257) (sym (ap (λ t. get_or t j 0) e ∙ get_or_past positions j 0 l)) (omega arith))
     (cases_lt j 33)
 
--- position j is a power of 12
-position_power : (j : ℕ) → power_of_12 (4 * j) ≡ position j
-unfolding position
-position_power zero = refl
-position_power (suc j) =
-    let e : 4 * suc j ≡ 4 + 4 * j = omega arith in
-    ap power_of_12 e ∙ (ap (λ x. x % 257) (pow-add 12 4 (4 * j))
-    ∙ (sym (cut_right 20736 (12 ^ (4 * j))) ∙ (ap (λ x. 20736 * x % 257) (position_power j)
-    ∙ (sym (cut_left 20736 (position j)) ∙ (cut_right 176 (176 ^ j) ∙ ap (λ x. x % 257) (sym (pow-succ' 176 j)))))))
-
 -- the place of a position, by a logarithm of it
 pub place_logarithm : (n l j : ℕ) → power_of_12 l ≡ position j → power_of_12 ((n + l) % 256) ≡ place_by (12 ^ n) j
 place_logarithm n l j e =
     turned (n + l) ∙ (ap (λ x. x % 257) (pow-add 12 n l) ∙ (sym (cut_right (12 ^ n) (12 ^ l)) ∙ ap (λ x. 12 ^ n * x % 257) e))
-
-pub place_power : (n j : ℕ) → power_of_12 ((n + 4 * j) % 256) ≡ place_by (12 ^ n) j
-place_power n j = place_logarithm n (4 * j) j (position_power j)
 
 -- a power of 12 undoes a logarithm
 abbrev undoes : ℕ → ℕ → Bool

@@ -46,9 +46,6 @@ impl Engine for Postponed {
     }
 
     fn copy(&self) -> Postponed {
-        Postponed {
-            words: self.words,
-            count: self.count,
-        }
+        *self
     }
 }

@@ -1,22 +1,29 @@
 -- Empty steps and readings: the turns and ends of the loops that absorb single bytes, blank and squeeze.
 use Rattle.std.proofs.Common.{◌≡◌, ℕ, zero, suc, ◌+◌, ◌-◌, ◌<◌, ◌≤◌, min, List, [], ◌∷◌, ◌++◌, length, get_or, take, drop, sym, refl, ap, ◌∙◌, ap₂, arith}
 use borrow.Rule.Slice.PartMut.{put_mid}
-use Rattle.std.proofs.lemmas.List.{append-nil, length-take, at_drop_more, at_drop_all, take_all}
+use Rattle.std.proofs.lemmas.List.{append-nil, length-append, length-take, length-drop, at_drop_more, at_drop_all, take_all}
 use Rattle.duplex.specs.State.{step, reading}
 use Rattle.duplex.specs.Strings.{padded, absorbed_unkeyed, blanked, word_bytes, readings, words_for, squeezed, drained}
+use Rattle.strings.specs.Unkeyed.{appended}
 use Rattle.strings.proofs.Blocks.{written}
 
 -- Single bytes.
 
-pub unkeyed_turn : (s s₁ s₂ xs : List ℕ) (i : ℕ) → i < length xs → s₁ ≡ step s (padded (get_or xs i 0 ∷ [])) → s₂ ≡ blanked s₁ 1
-    → absorbed_unkeyed s₂ (drop (i + 1) xs) ≡ absorbed_unkeyed s (drop i xs)
-unfolding absorbed_unkeyed blanked
-unkeyed_turn s s₁ s₂ xs i h e f =
-    ap (λ b. absorbed_unkeyed b (drop (i + 1) xs)) (f ∙ ap (λ b. blanked b 1) e) ∙ sym (at_drop_more (absorbed_unkeyed s) xs i 0 h)
+pub append_turn : (s s₁ s₂ xs : List ℕ) (i : ℕ) → i < length xs → s₁ ≡ step s (padded (get_or xs i 0 ∷ [])) → s₂ ≡ blanked s₁ 1
+    → appended s₂ (drop (i + 1) xs) ≡ appended s (drop i xs)
+unfolding appended blanked
+append_turn s s₁ s₂ xs i h e f =
+    ap (λ b. appended b (drop (i + 1) xs)) (f ∙ ap (λ b. blanked b 1) e) ∙ sym (at_drop_more (appended s) xs i 0 h)
 
-pub unkeyed_end : (s s' xs : List ℕ) (i : ℕ) → length xs ≤ i → s' ≡ blanked s 2 → s' ≡ absorbed_unkeyed s (drop i xs)
-unfolding absorbed_unkeyed blanked
-unkeyed_end s s' xs i h e = e ∙ sym (at_drop_all (absorbed_unkeyed s) xs i h)
+pub append_end : (s xs : List ℕ) (i : ℕ) → length xs ≤ i → s ≡ appended s (drop i xs)
+unfolding appended
+append_end s xs i h = sym (at_drop_all (appended s) xs i h)
+
+-- the end of a string: what was appended is then absorbed
+pub appended-ended : (s t : List ℕ) → blanked (appended s t) 2 ≡ absorbed_unkeyed s t
+unfolding appended blanked absorbed_unkeyed
+appended-ended s [] = refl
+appended-ended s (b ∷ t) = appended-ended (step (step s (padded (b ∷ []))) (padded [])) t
 
 -- Blanking.
 
@@ -59,15 +66,18 @@ drained_more s n h = ap (blanked s) (words_more n h)
 abbrev pub Fills : List ℕ → List ℕ → ℕ → ℕ → List ℕ → List ℕ → Type 0
 Fills s xs n i t u = (take i xs ++ squeezed s (n - i) ≡ t) × (drained s (n - i) ≡ u)
 
--- the turn: `&mut xs[i..i + p]` becomes m
-pub squeeze_turn : (s s' xs m w t u : List ℕ) (n i p : ℕ) → length xs ≡ n → i < n → p ≡ min 4 (length xs - i)
-    → w ≡ word_bytes (reading s) → m ≡ take (p - 0) w → s' ≡ step s (padded []) → Fills s xs n i t u → Fills s' (put_mid i (i + p - i) xs m) n (i + p) t u
-squeeze_turn s s' xs m w t u n i p l h ep ew em es (e, f) =
+part_long : (s m w : List ℕ) (k : ℕ) → k ≤ 4 → w ≡ word_bytes (reading s) → m ≡ take k w → length m ≡ k
+part_long s m w k h ew em = ap length em ∙ (length-take k w ∙ (ap (λ b. min k (length b)) ew ∙ omega arith))
+
+-- the turn: `&mut xs[i..e]` becomes m
+pub squeeze_turn : (s s' xs m w t u : List ℕ) (n i e j : ℕ) → length xs ≡ n → i < n → e ≡ min (i + 4) (length xs) → j ≡ e
+    → w ≡ word_bytes (reading s) → m ≡ take (e - i) w → s' ≡ step s (padded []) → Fills s xs n i t u → Fills s' (put_mid i (e - i) xs m) n j t u
+squeeze_turn s s' xs m w t u n i e j l h ee ej ew em es (f, g) =
     let some : 0 < n - i = omega arith in
-    let part : p - 0 ≡ min 4 (n - i) = omega arith in
-    let left : n - (i + p) ≡ n - i - min 4 (n - i) = omega arith in
-    let long : length m ≡ p = ap length em ∙ (length-take (p - 0) w ∙ (ap (λ b. min (p - 0) (length b)) ew ∙ omega arith)) in
-    let front = written xs m (squeezed s' (n - (i + p))) i p (omega arith) long in
+    let part : e - i ≡ min 4 (n - i) = omega arith in
+    let left : n - j ≡ n - i - min 4 (n - i) = omega arith in
+    let long = part_long s m w (e - i) (omega arith) ew em in
+    let front = written xs m (squeezed s' (n - j)) i e j (omega arith) long (omega arith) ej in
     let sum = squeezed_more s (n - i) some in
     let state = drained_more s (n - i) some in
     (cc, cc)
@@ -78,3 +88,11 @@ squeeze_end s xs t u n i l h (e, f) =
     let none : n - i ≡ 0 = omega arith in
     let all : take i xs ≡ xs = take_all i xs (omega arith) in
     (sym (ap₂ (λ p k. p ++ squeezed s k) all none ∙ append-nil xs) ∙ e, sym (ap (drained s) none) ∙ f)
+
+-- the last turn, with no more than four bytes left
+pub squeeze_last : (s s' xs m w t u : List ℕ) (n i e : ℕ) → length xs ≡ n → i < n → n - i ≤ 4 → e ≡ min (i + 4) (length xs)
+    → w ≡ word_bytes (reading s) → m ≡ take (e - i) w → s' ≡ step s (padded []) → Fills s xs n i t u → (put_mid i (e - i) xs m ≡ t) × (s' ≡ u)
+squeeze_last s s' xs m w t u n i e l h few ee ew em es f =
+    let long = part_long s m w (e - i) (omega arith) ew em in
+    let same : length (put_mid i (e - i) xs m) ≡ n = simp (length-append, length-take, length-drop) (omega arith) in
+    squeeze_end s' (put_mid i (e - i) xs m) t u n e same (omega arith) (squeeze_turn s s' xs m w t u n i e e l h ee refl ew em es f)

@@ -1,10 +1,17 @@
 // The string operations of the suite, written once over any engine.
 #![tactic(auto)]
 
-ghost use Rattle.std.specs.Prelude.{◌≡◌, ℕ, ◌≤◌, List, [], length, if◌then◌else◌};
+ghost use Rattle.std.specs.Prelude.{◌≡◌, ℕ, ◌≤◌, List, [], length};
 ghost use Rattle.duplex.specs.State.{zeros, step, reading};
-ghost use Rattle.duplex.specs.Strings.{padded, absorbed, absorbed_unkeyed, masked, enciphered, deciphered, blanked, word_bytes, squeezed, drained};
+ghost use Rattle.duplex.specs.Strings.{padded, blocks, absorbed, absorbed_unkeyed, masked, enciphered, deciphered, blanked, word_bytes, squeezed, drained};
+ghost use Rattle.strings.specs.Crypt.{after, sums, ends};
+ghost use Rattle.strings.specs.Unkeyed.{appended};
 
+mod block;
+mod cipher;
+
+use block::Block;
+use cipher::{Cipher, Decrypt, Encrypt};
 use duplex::Engine;
 
 // A duplex object: an engine, and the string operations on it.
@@ -21,7 +28,7 @@ impl<E: Engine> Duplex<E> {
         Duplex { engine: E::new() }
     }
 
-    // A second object that means the same bits.
+    // A second object that means the same bits: a method for the reason at `Engine::copy`.
     pub fn copy(&self) -> Duplex<E>
         ensures { E.bits result.engine ≡ E.bits self.now.engine }
     {
@@ -34,23 +41,29 @@ impl<E: Engine> Duplex<E> {
     pub fn absorb(&mut self, text: &[u8])
         ensures { E.bits self.new.engine ≡ absorbed (E.bits self.old.engine) text.now }
     {
-        let mut rest = text;
-        while rest.len() >= 4 {
-            self.step(&rest[0..4]);
-            rest = &rest[4..];
+        let (blocks, rest) = text.as_chunks::<4>();
+        for block in blocks {
+            self.step(Block { bytes: block });
         }
-        self.step(rest);
+        self.step(Block { bytes: rest });
     }
 
-    // Absorbs an unkeyed string: a byte a step and a last step with none, each followed by an empty one.
+    // Absorbs an unkeyed string: its bytes, and a last step with none, which an empty one follows.
     pub fn absorb_unkeyed(&mut self, text: &[u8])
         ensures { E.bits self.new.engine ≡ absorbed_unkeyed (E.bits self.old.engine) text.now }
     {
-        for byte in text {
-            self.step(&[*byte]);
+        self.append_unkeyed(text);
+        self.blank(2);
+    }
+
+    // Absorbs the next bytes of an unkeyed string that goes on: a byte a step, each followed by an empty one.
+    pub fn append_unkeyed(&mut self, bytes: &[u8])
+        ensures { E.bits self.new.engine ≡ appended (E.bits self.old.engine) bytes.now }
+    {
+        for byte in bytes {
+            self.step(Block { bytes: &[*byte] });
             self.blank(1);
         }
-        self.blank(2);
     }
 
     // Encrypts in place.
@@ -58,7 +71,7 @@ impl<E: Engine> Duplex<E> {
         ensures sum { text.new ≡ enciphered (E.bits self.old.engine) text.old }
         ensures moved { E.bits self.new.engine ≡ absorbed (E.bits self.old.engine) text.old }
     {
-        self.crypt(text, false);
+        self.crypt::<Encrypt>(text);
     }
 
     // Decrypts in place. From the state that encrypted a text, this gives the text back, and both sides then mean the same bits.
@@ -67,7 +80,7 @@ impl<E: Engine> Duplex<E> {
         ensures moved { E.bits self.new.engine ≡ absorbed (E.bits self.old.engine) (deciphered (E.bits self.old.engine) text.old) }
         ensures undoes { (t : List ℕ) → text.old ≡ enciphered (E.bits self.old.engine) t → (text.new ≡ t) × (E.bits self.new.engine ≡ absorbed (E.bits self.old.engine) t) }
     {
-        self.crypt(text, true);
+        self.crypt::<Decrypt>(text);
     }
 
     // Steps with the empty block.
@@ -75,30 +88,27 @@ impl<E: Engine> Duplex<E> {
         ensures { E.bits self.new.engine ≡ blanked (E.bits self.old.engine) times }
     {
         for _ in 0..times {
-            self.step(&[]);
+            self.step(Block { bytes: &[] });
         }
     }
 
-    // Fills `out` with readings, each followed by an empty step; bytes over are dropped.
+    // Fills `out` with readings, each followed by an empty step; bytes over are dropped. It goes by places: nothing is known of what a slice ends as that `chunks_mut` lends.
     pub fn squeeze(&mut self, out: &mut [u8])
         ensures sum { out.new ≡ squeezed (E.bits self.old.engine) (length out.old) }
         ensures moved { E.bits self.new.engine ≡ drained (E.bits self.old.engine) (length out.old) }
     {
-        let mut i = 0;
-        while i < out.len() {
-            let n = usize::min(4, out.len() - i);
+        for i in (0..out.len()).step_by(4) {
             let word = self.squeeze_word();
-            out[i..i + n].copy_from_slice(&word[0..n]);
-            i += n;
+            let end = usize::min(i + 4, out.len());
+            out[i..end].copy_from_slice(&word[..end - i]);
         }
     }
 
-    // A step with a block of at most four bytes.
-    fn step(&mut self, block: &[u8])
-        requires { length block.now ≤ 4 }
-        ensures { E.bits self.new.engine ≡ step (E.bits self.old.engine) (padded block.now) }
+    // A step with a block.
+    fn step(&mut self, block: Block)
+        ensures { E.bits self.new.engine ≡ step (E.bits self.old.engine) (padded block.entry.bytes.now) }
     {
-        self.engine.step(block_number(block));
+        self.engine.step(block.number());
     }
 
     // A reading as four bytes, and an empty step after it.
@@ -107,54 +117,35 @@ impl<E: Engine> Duplex<E> {
         ensures moved { E.bits self.new.engine ≡ step (E.bits self.old.engine) (padded []) }
     {
         let word = self.engine.read();
-        self.step(&[]);
+        self.step(Block { bytes: &[] });
         word.to_le_bytes()
     }
 
-    // Encrypts or decrypts in place.
-    fn crypt(&mut self, text: &mut [u8], decrypts: bool)
-        ensures sum { text.new ≡ (if decrypts then deciphered (E.bits self.old.engine) text.old else enciphered (E.bits self.old.engine) text.old) }
-        ensures moved { E.bits self.new.engine ≡ absorbed (E.bits self.old.engine) (if decrypts then deciphered (E.bits self.old.engine) text.old else text.old) }
+    // Encrypts or decrypts in place. It goes by places, as `squeeze` does.
+    fn crypt<C: Cipher>(&mut self, text: &mut [u8])
+        ensures sum { text.new ≡ sums C.rule (E.bits self.old.engine) (blocks text.old) }
+        ensures moved { E.bits self.new.engine ≡ ends C.rule (E.bits self.old.engine) (blocks text.old) }
     {
-        let mut i = 0;
-        while text.len() - i >= 4 {
-            self.crypt_block(&mut text[i..i + 4], decrypts);
-            i += 4;
+        let whole = text.len() / 4;
+        for k in 0..whole {
+            self.crypt_block::<C>(&mut text[4 * k..4 * k + 4]);
         }
-        self.crypt_block(&mut text[i..], decrypts);
+        self.crypt_block::<C>(&mut text[4 * whole..]);
     }
 
-    // Adds the reading to a block of at most four bytes, and steps with the text block: the sum where this decrypts, else the block as it came.
-    fn crypt_block(&mut self, block: &mut [u8], decrypts: bool)
+    // Adds the reading to a block of at most four bytes, and steps with the text block.
+    fn crypt_block<C: Cipher>(&mut self, block: &mut [u8])
         requires { length block.old ≤ 4 }
         ensures sum { block.new ≡ masked (reading (E.bits self.old.engine)) block.old }
-        ensures moved { E.bits self.new.engine ≡ step (E.bits self.old.engine) (padded (if decrypts then block.new else block.old)) }
+        ensures moved { E.bits self.new.engine ≡ after C.rule (E.bits self.old.engine) block.old }
     {
-        let given = block_number(block);
-        mask(block, self.engine.read());
-        let text = if decrypts { block_number(block) } else { given };
-        self.engine.step(text);
-    }
-}
-
-// A block of at most four bytes as the number of its step: its bytes, lowest first, and then a 1.
-fn block_number(block: &[u8]) -> u64
-    requires { length block.now ≤ 4 }
-    ensures { result ≡ padded block.now }
-{
-    let mut bytes = [0; 8];
-    bytes[0..block.len()].copy_from_slice(block);
-    bytes[block.len()] = 1;
-    u64::from_le_bytes(bytes)
-}
-
-// Adds to each byte of a block its byte of the word, lowest first.
-fn mask(block: &mut [u8], word: u32)
-    ensures { block.new ≡ masked word block.old }
-{
-    let mut rest = word;
-    for byte in block.iter_mut() {
-        *byte ^= (rest % 256) as u8;
-        rest /= 256;
+        let given = Block { bytes: block }.number();
+        let word = self.engine.read().to_le_bytes();
+        // Of what an `iter_mut` that is zipped leaves, nothing is known.
+        for (k, byte) in block.iter_mut().enumerate() {
+            *byte ^= word[k];
+        }
+        let sum = Block { bytes: block }.number();
+        self.engine.step(C::text(given, sum));
     }
 }

@@ -1,10 +1,12 @@
 -- The bits in bytes and in words: byte k is byte k mod 4 of word k div 4.
-use Rattle.std.proofs.Common.{◌≡◌, ℕ, zero, suc, ◌+◌, ◌*◌, ◌/◌, ◌%◌, ◌^◌, ◌<◌, List, map, length, get_or, set, sym, ap, ◌∙◌, ⊎_elim, add-zero, arith, pow_mono}
+use Rattle.std.proofs.Common.{◌≡◌, ℕ, zero, suc, ◌+◌, ◌*◌, ◌/◌, ◌%◌, ◌^◌, ◌<◌, List, [], map, length, get_or, take, drop, set, sym, refl, ap, ◌∙◌, ⊎_elim, arith, pow_mono}
 use lib.Bits.{bit_and}
 use Rattle.std.specs.List.{range_with_len}
+use Rattle.std.specs.Simd.{first_chunks}
+use Rattle.std.proofs.lemmas.Simd.{get_or-chunk}
 use Rattle.std.proofs.lemmas.Nat.{and_mask}
 use Rattle.std.proofs.lemmas.List.FromFn.{fill_by_all}
-use Rattle.std.proofs.lemmas.List.{get_or_past, get_or-set_same, get_or-set_other}
+use Rattle.std.proofs.lemmas.List.{get_or_past, get_or-set_same, get_or-set_other, drop-drop}
 use Rattle.std.proofs.lemmas.Bool.{cases_lt, cases_eq}
 use Rattle.duplex.specs.State.{bit, number}
 use Rattle.duplex.specs.Bytes.{byte_of_state, bytes_of_state, state_of_bytes}
@@ -39,15 +41,26 @@ quad f v fits e (suc (suc zero)) h = omega (arith, e, fits 0, fits 1, fits 2, fi
 quad f v fits e (suc (suc (suc zero))) h = omega (arith, e, fits 0, fits 1, fits 2, fits 3)
 quad f v fits e (suc (suc (suc (suc r)))) h = absurd (omega arith)
 
-pub word_bytes_more : (ws bytes : List ℕ) (k v : ℕ) → k < length ws → ((i : ℕ) → get_or bytes i 0 < 256) → ((m : ℕ) → m < 4 * k → word_byte ws m ≡ get_or bytes m 0)
-    → v ≡ get_or bytes (4 * k) 0 + get_or bytes (4 * k + 1) 0 * 256 + get_or bytes (4 * k + 2) 0 * 65536 + get_or bytes (4 * k + 3) 0 * 16777216
+-- the four bytes from 4 × k on
+chunk_at : (xs : List ℕ) (n k : ℕ) → k < n → get_or (first_chunks 4 n xs) k [] ≡ take 4 (drop (4 * k) xs)
+chunk_at xs zero k h = absurd (omega arith)
+chunk_at xs (suc n) zero h = refl
+chunk_at xs (suc n) (suc k) h =
+    let next : 4 + 4 * k ≡ 4 * suc k = omega arith in
+    chunk_at (drop 4 xs) n k (omega arith) ∙ ap (take 4) (drop-drop (4 * k) 4 xs ∙ ap (λ m. drop m xs) next)
+
+pub word_bytes_more : (ws bytes : List ℕ) (blocks : List (List ℕ)) (n k v : ℕ) → blocks ≡ first_chunks 4 n bytes → k < n → k < length ws → ((i : ℕ) → get_or bytes i 0 < 256)
+    → ((m : ℕ) → m < 4 * k → word_byte ws m ≡ get_or bytes m 0)
+    → (let b = get_or blocks k [] in v ≡ get_or b 0 0 + get_or b 1 0 * 256 + get_or b 2 0 * 65536 + get_or b 3 0 * 16777216)
     → (m : ℕ) → m < 4 * (k + 1) → word_byte (set ws k v) m ≡ get_or bytes m 0
-word_bytes_more ws bytes k v l fits below e m h =
+word_bytes_more ws bytes blocks n k v eb hk l fits below e m h =
     ⊎_elim
-    (λ q. let first : get_or bytes (4 * k + 0) 0 ≡ get_or bytes (4 * k) 0 = ap (λ n. get_or bytes n 0) (add-zero (4 * k)) in
+    (λ q. let at : (r : ℕ) → r < 4 → get_or (get_or blocks k []) r 0 ≡ get_or bytes (4 * k + r) 0 =
+    λ r hr. ap (λ t. get_or t r 0) (ap (λ bs. get_or bs k []) eb ∙ chunk_at bytes n k hk) ∙ get_or-chunk (4 * k) 4 bytes r 0 hr in
     let here : 4 * k + m % 4 ≡ m = omega arith in
     ap (λ n. get_or (set ws k v) n 0 / 2 ^ (8 * (m % 4)) % 2 ^ 8) q ∙ (ap (λ n. n / 2 ^ (8 * (m % 4)) % 2 ^ 8) (get_or-set_same ws k v 0 l)
-    ∙ (quad (λ r. get_or bytes (4 * k + r) 0) v (λ r. fits (4 * k + r)) (omega arith) (m % 4) (omega arith) ∙ ap (λ n. get_or bytes n 0) here)))
+    ∙ (quad (λ r. get_or bytes (4 * k + r) 0) v (λ r. fits (4 * k + r)) (omega (arith, at 0 (omega arith), at 1 (omega arith), at 2 (omega arith), at 3 (omega arith))) (m % 4) (omega arith)
+    ∙ ap (λ n. get_or bytes n 0) here)))
     (λ ne. ap (λ n. n / 2 ^ (8 * (m % 4)) % 2 ^ 8) (get_or-set_other ws k (m / 4) v 0 ne) ∙ below m (omega arith))
     (cases_eq (m / 4) k)
 

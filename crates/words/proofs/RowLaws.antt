@@ -1,5 +1,5 @@
 -- A row of words, read from any place on, and the row that has the 257 bits twice.
-use Rattle.std.proofs.Common.{◌≡◌, ℕ, ◌+◌, ◌-◌, ◌*◌, ◌/◌, ◌%◌, ◌^◌, ◌<◌, ◌≤◌, List, length, get_or, set, sym, refl, ap, ◌∙◌, subst, ⊎_elim, arith, pow_mono}
+use Rattle.std.proofs.Common.{◌≡◌, ℕ, ◌+◌, ◌-◌, ◌*◌, ◌/◌, ◌%◌, ◌^◌, ◌<◌, ◌≤◌, List, length, get_or, set, sym, refl, ap, ◌∙◌, ⊎_elim, arith, pow_mono}
 use lib.Bits.{bit_and, bit_or}
 use Rattle.std.proofs.lemmas.Nat.{and_mask}
 use Rattle.std.proofs.lemmas.List.{get_or-set_same, get_or-set_other}
@@ -100,9 +100,6 @@ module _ (w row : List ℕ) (n : ℕ) (all : 8 ≤ n) (spare : get_or w 8 0 < 2)
   laid_cells = state_ext _ _ (λ i h. let e : i % 257 ≡ i = omega arith in laid_bit w row n all spare is i (omega arith) ∙ ap (word_bit w) e)
 
 -- the last word cut to its one bit
-pub mask_spare : (t : List ℕ) → length t ≡ 9 → get_or (set t 8 (bit_and (get_or t 8 0) 1)) 8 0 < 2
-mask_spare t w = subst (λ n. n < 2) (sym (get_or-set_same t 8 (bit_and (get_or t 8 0) 1) 0 (omega arith) ∙ and_mask (get_or t 8 0) 1)) (omega arith)
-
 mask_bit : (t : List ℕ) (m : ℕ) → length t ≡ 9 → m < 257 → word_bit (set t 8 (bit_and (get_or t 8 0) 1)) m ≡ word_bit t m
 mask_bit t m w h =
     let v = bit_and (get_or t 8 0) 1 in

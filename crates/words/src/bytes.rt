@@ -23,9 +23,10 @@ impl Words {
         ensures { cells result.array ≡ state_of_bytes bytes.now }
     {
         let mut array = [0u32; 9];
-        for k in 0..8 {
-            let i = 4 * k;
-            array[k] = u32::from_le_bytes([bytes[i], bytes[i + 1], bytes[i + 2], bytes[i + 3]]);
+        let (blocks, _) = bytes.as_chunks::<4>();
+        // Of what an `iter_mut` that is zipped leaves, nothing is known.
+        for (k, block) in blocks.iter().enumerate() {
+            array[k] = u32::from_le_bytes(*block);
         }
         array[8] = u32::from(bytes[32] & 1);
         Words { array }

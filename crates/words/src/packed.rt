@@ -47,6 +47,6 @@ impl Engine for Packed {
     }
 
     fn copy(&self) -> Packed {
-        Packed { words: self.words }
+        *self
     }
 }

@@ -46,6 +46,7 @@ impl Words {
         let x = row.rotate(d).array;
         let y = row.rotate(e).array;
         let w = self.array;
+        // `array::from_fn` was tried, and the proof did not close: of a bound's call inside a closure it gets too little.
         let mut array = [0u32; 9];
         for k in 0..9 {
             array[k] = M::word(w[k], x[k], y[k]);

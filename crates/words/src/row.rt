@@ -19,10 +19,9 @@ impl Row {
     {
         let w = w.array;
         let mut array = [0u32; 18];
-        for k in 0..8 {
-            array[k] = w[k];
-        }
-        array[8] = w[8] | (w[0] << 1);
+        array[..9].copy_from_slice(&w);
+        array[8] |= w[0] << 1;
+        // By numbers: of what an `iter_mut` that is zipped with windows leaves, nothing is known.
         for m in 0..8 {
             array[9 + m] = (w[m] >> 31) | (w[m + 1] << 1);
         }

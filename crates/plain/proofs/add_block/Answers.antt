@@ -2,7 +2,7 @@
 use Rattle.std.proofs.Common.{◌+◌, ◌-◌, sym, refl, ap, ◌∙◌}
 use Rattle.std.specs.List.{range_with_len}
 use Rattle.duplex.specs.State.{position, bit, add_at, add_bits, inject}
-use Rattle.duplex.proofs.StepLaws.{add_bits_more, add_bits_all}
+use Rattle.duplex.proofs.StepLaws.{add_bits_more}
 use Rattle.plain.proofs.add_block.Goals as goal
 
 pub loop-j-init : goal.loop-j-init
@@ -16,6 +16,3 @@ loop-j-preserved c =
     let j = c.loop-j.j in
     ap (λ p. add_bits position x (add_at s p (bit x j)) (range_with_len (j + 1) (33 - (j + 1)))) c.place.ensures.value
     ∙ (sym (add_bits_more position x s j c.loop-j-test.true) ∙ c.loop-j.invariant)
-
-pub returns : goal.returns
-returns c = sym (add_bits_all position c.args.block c.loop-j.cells c.loop-j.j c.loop-j-test.false) ∙ c.loop-j.invariant

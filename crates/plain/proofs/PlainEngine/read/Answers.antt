@@ -1,5 +1,5 @@
 -- Each turn reads one more bit, which is 0 or 1 as the cells are.
-use Rattle.std.proofs.Common.{◌≡◌, ℕ, ◌-◌, ◌%◌, ◌<◌, map, get_or, ap, ◌∙◌, arith, w32, Fits}
+use Rattle.std.proofs.Common.{◌≡◌, ℕ, ◌-◌, ◌%◌, ◌<◌, map, get_or, ap, ◌∙◌, arith}
 use lib.Bits.{xor_lt}
 use Rattle.std.specs.List.{range_with_len}
 use Rattle.duplex.specs.State.{◌⊕◌, number, read_bit, reading}
@@ -9,12 +9,6 @@ use Rattle.plain.proofs.PlainEngine.read.Goals as goal
 
 binary : (e : Plain) (p q : ℕ) → get_or e.cells p 0 ⊕ get_or e.cells q 0 < 2
 binary e p q = xor_lt 1 (get_or e.cells p 0) (get_or e.cells q 0) (e.binary p) (e.binary q)
-
-fits : (e : Plain) (p q : ℕ) → Fits w32 (get_or e.cells p 0 ⊕ get_or e.cells q 0)
-fits e p q = record { fits = omega (arith, binary e p q) }
-
-pub overflow_cast-out : goal.overflow_cast-out
-overflow_cast-out c = fits c.args.self.now _ _
 
 pub loop-j-preserved : goal.loop-j-preserved
 loop-j-preserved c =

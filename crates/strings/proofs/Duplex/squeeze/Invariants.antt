@@ -1,5 +1,5 @@
 -- What is still to be squeezed, from the bits so far, gives the bytes and the bits that all gave from the start.
-use Rattle.std.proofs.Common.{◌-◌, length}
+use Rattle.std.proofs.Common.{length}
 use Rattle.duplex.specs.Strings.{squeezed, drained}
 use Rattle.strings.proofs.Readings.{Fills}
 use Rattle.strings.proofs.Duplex.squeeze.Given as goal
@@ -9,6 +9,3 @@ invariant-loop-i g l =
     let start = g.E.Engine.bits l.initial.self.engine in
     let n = length l.initial.out in
     Fills (g.E.Engine.bits l.self.engine) l.out n l.i (squeezed start n) (drained start n)
-
-abbrev pub decreases-loop-i : goal.decreases-loop-i
-decreases-loop-i g l = length l.initial.out - l.i

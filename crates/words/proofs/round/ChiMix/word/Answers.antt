@@ -1,6 +1,6 @@
 -- Place by place, (x + 1) × y is y + x × y.
-use Rattle.std.proofs.Common.{◌≡◌, ℕ, ◌<◌, ap, ◌∙◌, arith}
-use lib.Bits.{bit_and, bit_xor, and_lt, xor_lt}
+use Rattle.std.proofs.Common.{◌≡◌, ℕ, ap, ◌∙◌, arith}
+use lib.Bits.{bit_and, bit_xor}
 use Rattle.duplex.specs.State.{bit}
 use Rattle.words.specs.Packing.{chi_rule}
 use Rattle.words.specs.BitLaws.{bit-bit_xor, bit-bit_and, chi_form}
@@ -12,8 +12,5 @@ placewise a x y j =
     ∙ (ap (λ n. bit_xor n (bit (bit_and x y) j)) (bit-bit_xor a y j) ∙ (ap (bit_xor (bit_xor (bit a j) (bit y j))) (bit-bit_and x y j)
     ∙ chi_form (bit a j) (bit x j) (bit y j) (omega arith) (omega arith) (omega arith)))
 
-one_bit : (a x y : ℕ) → a < 2 → x < 2 → y < 2 → bit_xor (bit_xor a y) (bit_and x y) < 2
-one_bit a x y ha hx hy = xor_lt 1 (bit_xor a y) (bit_and x y) (xor_lt 1 a y ha hy) (and_lt 1 x y hx hy)
-
-pub returns : goal.returns
-returns c = record { places = placewise c.args.a c.args.x c.args.y; narrow = one_bit c.args.a c.args.x c.args.y }
+pub returns-clause-places : goal.returns-clause-places
+returns-clause-places c = placewise c.args.a c.args.x c.args.y

@@ -1,7 +1,7 @@
 -- Each word written is a window of the row.
 use Rattle.std.proofs.Common.{◌≡◌, ◌+◌, ◌*◌, ◌/◌, ◌%◌, ◌^◌, ◌<◌, get_or, ap, ◌∙◌, arith, length-set, rules}
 use Rattle.words.specs.Packing.{word_bit}
-use Rattle.words.proofs.RowLaws.{words_more, window_bit, mask_spare, read_from}
+use Rattle.words.proofs.RowLaws.{words_more, window_bit, read_from}
 use Rattle.words.proofs.row.Row.rotate.Goals as goal
 
 pub loop-k-preserved : goal.loop-k-preserved
@@ -15,9 +15,6 @@ loop-k-preserved c =
       words_more (λ m. word_bit row (m + (32 * (d / 32) + d % 32))) t k _ (omega arith) c.loop-k.invariant.1
           (λ m e. window_bit row (d / 32 + k) (d % 32) (m % 32) _ fits (omega arith) (omega arith) (omega arith)),
     )
-
-pub invariant_of-result : goal.invariant_of-result
-invariant_of-result c = record { width = length-set c.loop-k.array 8 _ ∙ c.loop-k.invariant.0; spare = mask_spare c.loop-k.array c.loop-k.invariant.0 }
 
 pub returns : goal.returns
 returns c =

@@ -1,21 +1,13 @@
 -- Four bytes a turn, and then the last bit.
-use Rattle.std.proofs.Common.{refl, ◌∙◌, arith, length-set}
+use Rattle.std.proofs.Common.{◌/◌, length, ◌∙◌, arith, length-set}
 use Rattle.words.proofs.ByteLaws.{word_bytes_more, last_word}
 use Rattle.words.proofs.vector.Words.from_bytes.Goals as goal
-
-pub loop-k-init : goal.loop-k-init
-loop-k-init c = (refl, λ m h. absurd (omega arith))
 
 pub loop-k-preserved : goal.loop-k-preserved
 loop-k-preserved c = (
   length-set c.loop-k.array c.loop-k.k _ ∙ c.loop-k.invariant.0,
-  word_bytes_more c.loop-k.array c.args.bytes.now c.loop-k.k _ (omega arith) c.fits-bytes c.loop-k.invariant.1 c.from_le_bytes.ensures,
+  word_bytes_more c.loop-k.array c.args.bytes.now c.as_chunks.result.0.now (length c.args.bytes.now / 4) c.loop-k.k _ c.as_chunks.ensures.front (omega arith) (omega arith) c.fits-bytes c.loop-k.invariant.1 c.from_le_bytes.ensures,
 )
-
-pub invariant_of-result : goal.invariant_of-result
-invariant_of-result c =
-    let made = last_word c.loop-k.array c.args.bytes.now _ c.loop-k.invariant.0 c.from.ensures (λ m h. c.loop-k.invariant.1 m (omega arith)) in
-    record { width = length-set c.loop-k.array 8 _ ∙ c.loop-k.invariant.0; spare = made.0 }
 
 pub returns : goal.returns
 returns c = (last_word c.loop-k.array c.args.bytes.now _ c.loop-k.invariant.0 c.from.ensures (λ m h. c.loop-k.invariant.1 m (omega arith))).1

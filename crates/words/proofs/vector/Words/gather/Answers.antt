@@ -1,19 +1,11 @@
 -- Each turn puts one bit into its place.
-use Rattle.std.proofs.Common.{◌≡◌, ℕ, ◌+◌, ◌*◌, ◌%◌, ◌<◌, get_or, sym, ap, ◌∙◌, subst, add-zero, add_assoc, mul-zero, mul-one, mul-add, arith, below_more}
+use Rattle.std.proofs.Common.{◌≡◌, ℕ, ◌+◌, ◌*◌, ◌%◌, ◌<◌, get_or, sym, ap, ◌∙◌, subst, add_assoc, mul-one, mul-add, arith, below_more}
 use Rattle.duplex.specs.State.{at}
 use Rattle.words.specs.Packing.{cells}
-use Rattle.words.specs.BitLaws.{bit_zero, bit_below, bit_here, bit_above}
+use Rattle.words.specs.BitLaws.{bit_below, bit_here, bit_above}
 use Rattle.words.specs.ModLaws.{sum_mod}
 use Rattle.words.specs.WordLaws.{cells-state}
 use Rattle.words.proofs.vector.Words.gather.Goals as goal
-
-pub loop-j-init : goal.loop-j-init
-loop-j-init c =
-    let first : c.args.start.value ≡ c.args.start.value % 257 = omega (arith, c.args.start.below) in (
-      first ∙ ap (λ n. n % 257) (sym (ap (λ n. c.args.start.value + n) (mul-zero c.args.c.value) ∙ add-zero c.args.start.value)),
-      (λ m h. absurd (omega arith)),
-      (λ m _ h. bit_zero m),
-    )
 
 pub loop-j-preserved : goal.loop-j-preserved
 loop-j-preserved c =
@@ -32,11 +24,3 @@ loop-j-preserved c =
       below_more _ _ (λ m h. bit_below c.loop-j.word b j hb hj m (f m) h (c.loop-j.invariant.1 m h)) (bit_here c.loop-j.word b j hb hj (c.loop-j.invariant.2 j (omega arith) hj) ∙ read),
       (λ m l h. bit_above c.loop-j.word b j hb hj m (omega arith) h (c.loop-j.invariant.2 m (omega arith) h)),
     )
-
-pub returns : goal.returns
-returns c =
-    let e : c.loop-j.j ≡ 32 = omega arith in
-    record {
-      bits = λ j h. c.loop-j.invariant.1 j (omega arith);
-      next = c.loop-j.invariant.0 ∙ ap (λ n. (c.args.start.value + c.args.c.value * n) % 257) e;
-    }

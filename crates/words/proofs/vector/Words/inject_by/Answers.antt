@@ -4,7 +4,7 @@ use lib.Bits.{bit_and}
 use Rattle.std.specs.List.{range_with_len}
 use Rattle.std.proofs.lemmas.Nat.{and_mask}
 use Rattle.duplex.specs.State.{bit, add_at, add_bits}
-use Rattle.duplex.proofs.StepLaws.{add_bits_more, add_bits_all, add_bits_none}
+use Rattle.duplex.proofs.StepLaws.{add_bits_more, add_bits_none}
 use Rattle.words.specs.Packing.{cells, place_by, inject_by}
 use Rattle.words.proofs.vector.Words.inject_by.Goals as goal
 
@@ -28,8 +28,3 @@ returns-then-rest-eq0 g c =
     let p = place_by (g.P.Places.factor c.args.places.now) in
     let j = c.loop-j.j in
     sym (add_bits_none p c.args.block (cells c.loop-j.self.array) (33 - j) j c.if-rest-eq0.true) ∙ c.loop-j.invariant
-
-pub returns : goal.returns
-returns g c =
-    let p = place_by (g.P.Places.factor c.args.places.now) in
-    sym (add_bits_all p c.args.block (cells c.loop-j.self.array) c.loop-j.j c.loop-j-test.false) ∙ c.loop-j.invariant

@@ -20,9 +20,6 @@ loop-k-preserved g c =
       mixed_spare w.array x.array y.array t k v c.loop-k-test.true c.loop-k.invariant.0 w.spare x.spare y.spare c.word.ensures.narrow,
     )
 
-pub invariant_of-result : goal.invariant_of-result
-invariant_of-result g c = record { width = c.loop-k.invariant.0; spare = c.loop-k.invariant.2 (omega arith) }
-
 pub returns : goal.returns
 returns g c =
     let d = c.args.d.value in

@@ -10,9 +10,6 @@ use Rattle.words.proofs.ReadLaws.{read_fits, read_down}
 use Rattle.words.specs.WordLaws.{cells-state}
 use Rattle.words.proofs.vector.Words.read_by.Goals as goal
 
-pub overflow_mul-out : goal.overflow_mul-out
-overflow_mul-out g c = omega (arith, read_fits c.loop-j.j c.loop-j.out 0 c.loop-j-test.true c.loop-j.auto.j (omega arith) c.loop-j.invariant.0)
-
 -- the bit that is read
 sum_bit : (ws : List ℕ) (p q x y : ℕ) → x ≡ get_or (cells ws) p 0 → y ≡ get_or (cells ws) q 0 → bit_xor x y < 2
 sum_bit ws p q x y ex ey =

@@ -1,5 +1,5 @@
 -- A word a turn, and then the last bit.
-use Rattle.std.proofs.Common.{◌≡◌, ℕ, ◌*◌, ◌%◌, ◌<◌, List, get_or, sym, refl, ap, ◌∙◌, subst, mul-zero, arith, length-set}
+use Rattle.std.proofs.Common.{◌≡◌, ℕ, ◌*◌, ◌%◌, ◌<◌, List, get_or, sym, ap, ◌∙◌, subst, arith, length-set}
 use Rattle.std.proofs.lemmas.List.{get_or-set_same}
 use Rattle.duplex.specs.State.{at}
 use Rattle.words.specs.Packing.{cells}
@@ -7,9 +7,6 @@ use Rattle.words.proofs.RowLaws.{words_more}
 use Rattle.words.proofs.StretchLaws.{place-next, place_within, all_stretched}
 use Rattle.words.specs.WordLaws.{cells-state}
 use Rattle.words.proofs.vector.Words.stretch_by.Goals as goal
-
-pub loop-k-init : goal.loop-k-init
-loop-k-init c = (refl, ap (λ n. n % 257) (sym (mul-zero c.args.c.value)), λ m h. absurd (omega arith))
 
 pub loop-k-preserved : goal.loop-k-preserved
 loop-k-preserved c =

@@ -1,22 +1,8 @@
 -- One byte a turn; the bytes hold the state and no more.
-use Rattle.std.proofs.Common.{◌≡◌, ◌*◌, ◌/◌, ◌%◌, ◌^◌, ◌<◌, get_or, sym, refl, ap, ◌∙◌, arith, length-set}
-use Rattle.std.proofs.lemmas.Nat.{and_mask}
-use Rattle.std.proofs.lemmas.List.Edits.{fill_by_more}
+use Rattle.std.proofs.Common.{◌≡◌, ◌%◌, ◌<◌, get_or, sym, ap, ◌∙◌, arith}
 use Rattle.duplex.specs.Bytes.{bytes_of_state}
 use Rattle.words.proofs.ByteLaws.{word_byte, cells-bytes, bytes_back}
 use Rattle.words.proofs.vector.Words.to_bytes.Goals as goal
-
-pub loop-k-init : goal.loop-k-init
-loop-k-init c = (refl, λ m h. absurd (omega arith))
-
-pub loop-k-preserved : goal.loop-k-preserved
-loop-k-preserved c =
-    let ws = c.args.self.now.array in
-    let k = c.loop-k.k in
-    let byte = and_mask (get_or ws (k / 4) 0 / 2 ^ (8 * (k % 4))) 8 in (
-      length-set c.loop-k.bytes k _ ∙ c.loop-k.invariant.0,
-      rw byte (fill_by_more (word_byte ws) c.loop-k.bytes k 0 (omega arith) c.loop-k.invariant.1),
-    )
 
 pub returns : goal.returns
 returns c =

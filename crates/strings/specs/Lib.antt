@@ -1,0 +1,2 @@
+pub mod Crypt
+pub mod Unkeyed
