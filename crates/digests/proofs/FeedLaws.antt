@@ -3,6 +3,7 @@ use Rattle.std.proofs.Common.{◌≡◌, ℕ, ◌+◌, ◌-◌, ◌<◌, ◌≤�
 use Rattle.std.proofs.lemmas.List.{append_assoc, append-nil, take_all, drop_all, take_at, drop_at, take_rest, at_drop_more, at_drop_all}
 use Rattle.duplex.specs.State.{step, zeros}
 use Rattle.duplex.specs.Strings.{padded, absorbed_unkeyed, blanked, squeezed}
+use Rattle.strings.proofs.Readings.{appended-ended}
 use Rattle.digests.specs.declared.pieces.FeedCall.{FeedCall}
 use Rattle.digests.specs.declared.pieces.FeedCall.TheVariants.{Append, End}
 use Rattle.digests.specs.Digests.{absorbed_all, digested}
@@ -10,29 +11,6 @@ use Rattle.digests.specs.Feeding.{appended, ended, finished, some_bytes, spelled
 
 abbrev after_byte : List ℕ → ℕ → List ℕ
 after_byte s b = step (step s (padded (b ∷ []))) (padded [])
-
-pub append_turn : (s xs : List ℕ) (i : ℕ) → i < length xs → appended s (drop i xs) ≡ appended (after_byte s (get_or xs i 0)) (drop (i + 1) xs)
-unfolding appended
-append_turn s xs i h = at_drop_more (appended s) xs i 0 h
-
-pub append_end : (s xs : List ℕ) (i : ℕ) → length xs ≤ i → appended s (drop i xs) ≡ s
-unfolding appended
-append_end s xs i h = at_drop_all (appended s) xs i h
-
-or_true : (b : Bool) → (b || true) ≡ true
-or_true true = refl
-or_true false = refl
-
-pub or_false : (b : Bool) → (b || false) ≡ b
-or_false true = refl
-or_false false = refl
-
--- whether a string has begun, where bytes from i on are still to come
-pub begun_turn : (b : Bool) (xs : List ℕ) (i : ℕ) → i < length xs → (b || some_bytes (drop i xs)) ≡ (true || some_bytes (drop (i + 1) xs))
-begun_turn b xs i h = at_drop_more (λ r. b || some_bytes r) xs i 0 h ∙ or_true b
-
-pub begun_end : (b : Bool) (xs : List ℕ) (i : ℕ) → length xs ≤ i → (b || some_bytes (drop i xs)) ≡ b
-begun_end b xs i h = at_drop_all (λ r. b || some_bytes r) xs i h ∙ or_false b
 
 -- Pieces.
 
@@ -47,9 +25,8 @@ some_bytes-++ (b ∷ t) u = refl
 
 -- a string that is appended and ended is absorbed
 pub ended-appended : (s t : List ℕ) → ended (appended s t) ≡ absorbed_unkeyed s t
-unfolding appended ended absorbed_unkeyed
-ended-appended s [] = refl
-ended-appended s (b ∷ t) = ended-appended (after_byte s b) t
+unfolding ended blanked
+ended-appended s t = appended-ended s t
 
 -- the bits after calls and finishing
 abbrev pub fed : List ℕ → Bool → List ℕ → List FeedCall → List ℕ

@@ -1,11 +1,7 @@
 -- The digest and the deck function of a list of strings.
-use Rattle.std.specs.Prelude.{ℕ, Bool, true, false, List, [], ◌∷◌}
+use Rattle.std.specs.Prelude.{ℕ, List, [], ◌∷◌}
 use Rattle.duplex.specs.State.{zeros}
 use Rattle.duplex.specs.Strings.{absorbed, absorbed_unkeyed, blanked, squeezed}
-
-abbrev pub absorbed_by : Bool → List ℕ → List ℕ → List ℕ
-absorbed_by true = absorbed
-absorbed_by false = absorbed_unkeyed
 
 -- the state after strings are absorbed one after the other, each by the rule
 abbrev pub absorbed_all : (List ℕ → List ℕ → List ℕ) → List ℕ → List (List ℕ) → List ℕ

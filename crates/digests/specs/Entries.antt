@@ -1,5 +1,6 @@
 -- The entries of a call: the strings that they cut out of a buffer, and the refusal of one that lies outside.
-use Rattle.std.specs.Prelude.{ℕ, ◌+◌, Bool, cond, List, [], ◌∷◌, take, drop, Some, None, Ok, Err, Option, Result, nat_lt}
+use Rattle.std.specs.Prelude.{ℕ, ◌+◌, Bool, List, [], ◌∷◌, take, drop, Some, None, Ok, Err, Option, Result, nat_lt}
+use Rattle.std.specs.List.{position_from}
 use Rattle.refusals.specs.declared.Layer.TheVariants as layer
 use Rattle.refusals.specs.declared.Layer.{Layer}
 use Rattle.refusals.specs.declared.Refusal.{Refusal}
@@ -22,8 +23,7 @@ too_far size e = nat_lt size (e.start + e.length)
 
 -- the first entry that goes too far; the entries are counted from i
 abbrev pub outside : ℕ → ℕ → List Entry → Option ℕ
-outside i size [] = None
-outside i size (e ∷ es) = cond (too_far size e) (Some i) (outside (i + 1) size es)
+outside i size es = position_from (too_far size) i es
 
 -- the answer of a call: an entry outside is its fault
 abbrev pub answered : (ℕ → EntryFault) → Option ℕ → Result (Unit {0}) EntryFault

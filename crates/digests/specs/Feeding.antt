@@ -1,17 +1,10 @@
 -- The fed digest: what appending, ending and finishing do to the bits, and the strings that a list of calls spells.
 use Rattle.std.specs.Prelude.{ℕ, Bool, true, false, cond, List, [], ◌∷◌, ◌++◌, map, length, take, drop}
 use Rattle.duplex.specs.Strings.{steps, blanked}
+pub use Rattle.strings.specs.Unkeyed.{byte_blocks}
+unfoldable pub use Rattle.strings.specs.Unkeyed.{appended}
 use Rattle.digests.specs.declared.pieces.FeedCall.{FeedCall}
 use Rattle.digests.specs.declared.pieces.FeedCall.TheVariants.{Append, End}
-
--- the blocks of some bytes of an unkeyed string: one byte each, with an empty block after each
-abbrev pub byte_blocks : List ℕ → List (List ℕ)
-byte_blocks [] = []
-byte_blocks (b ∷ bs) = (b ∷ []) ∷ [] ∷ byte_blocks bs
-
--- the bits after bytes of an unkeyed string that goes on
-unfoldable pub appended : List ℕ → List ℕ → List ℕ
-appended s t = steps s (byte_blocks t)
 
 -- the bits after the end of an unkeyed string: its last, empty block and the empty block after that
 unfoldable pub ended : List ℕ → List ℕ

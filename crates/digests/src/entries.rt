@@ -5,7 +5,7 @@ ghost use Rattle.digests.specs.Entries.{too_far, outside, told};
 use refusals::{Layer, Refusal};
 
 // `length` bytes of the buffer from `start` on.
-#[derive(Clone, Copy)]
+#[derive(Clone, Copy, Debug, PartialEq, Eq)]
 #[repr(C)]
 pub struct Entry {
     pub start: usize,
@@ -22,18 +22,18 @@ impl Entry {
 }
 
 // Why a call is refused: the first entry, from 0, that does not lie in the buffer.
-#[derive(Clone, Copy)]
+#[derive(Clone, Copy, Debug, PartialEq, Eq)]
 pub enum EntryFault {
     Digest { entry: usize },
     Deck { entry: usize },
 }
 
-impl EntryFault {
-    // The refusal's number, layer and place.
-    pub fn refusal(self) -> Refusal
-        ensures { result ≡ told self }
-    {
-        let (layer, place) = match self {
+// The refusal's number, layer and place.
+impl From<EntryFault> for Refusal {
+    ghost from_gives = { λ fault r. r ≡ told fault };
+
+    fn from(fault: EntryFault) -> Refusal {
+        let (layer, place) = match fault {
             EntryFault::Digest { entry } => (Layer::Digest, entry),
             EntryFault::Deck { entry } => (Layer::Deck, entry),
         };
@@ -49,10 +49,5 @@ impl EntryFault {
 pub fn first_outside(entries: &[Entry], size: usize) -> Option<usize>
     ensures { result ≡ outside 0 size entries.now }
 {
-    for (i, entry) in entries.iter().enumerate() {
-        if entry.lies_outside(size) {
-            return Some(i);
-        }
-    }
-    None
+    entries.iter().position(|entry| entry.lies_outside(size))
 }

@@ -7,12 +7,7 @@ ghost use Rattle.digests.specs.Feeding.{appended, ended, all_ended, finished, so
 use duplex::Engine;
 use strings::Duplex;
 
-// The padded blocks as numbers: the empty one, and what a block of one byte has above its byte.
-const EMPTY: u64 = 1;
-
-const ABOVE_BYTE: u64 = 256;
-
-// Takes strings in. `begun` says whether bytes were appended since the last end.
+// Takes strings in. `begun` says whether bytes were appended since the last end; two types would not do, since it shows only when the calls run.
 #[derive(Drop)]
 pub struct Feeding<E> {
     duplex: Duplex<E>,
@@ -27,7 +22,7 @@ pub struct Squeezing<E> {
 
 impl<E: Engine> Feeding<E> {
     pub fn new() -> Feeding<E>
-        ensures moved { E.Engine.bits result.duplex.engine ≡ zeros }
+        ensures moved { E.bits result.duplex.engine ≡ zeros }
         ensures begun { result.begun ≡ false }
     {
         Feeding {
@@ -38,20 +33,19 @@ impl<E: Engine> Feeding<E> {
 
     // Appends bytes to the string. No bytes change nothing.
     pub fn append(&mut self, bytes: &[u8])
-        ensures moved { E.Engine.bits self.new.duplex.engine ≡ appended (E.Engine.bits self.old.duplex.engine) bytes.now }
+        ensures moved { E.bits self.new.duplex.engine ≡ appended (E.bits self.old.duplex.engine) bytes.now }
         ensures begun { self.new.begun ≡ (self.old.begun || some_bytes bytes.now) }
     {
-        for byte in bytes {
-            self.duplex.engine.step(u64::from(*byte) + ABOVE_BYTE);
-            self.duplex.engine.step(EMPTY);
+        self.duplex.append_unkeyed(bytes);
+        if !bytes.is_empty() {
             self.begun = true;
         }
     }
 
     // Ends the string, which is empty where nothing was appended since the last end. What was appended is then absorbed as one unkeyed string.
     pub fn end_string(&mut self)
-        ensures moved { E.Engine.bits self.new.duplex.engine ≡ ended (E.Engine.bits self.old.duplex.engine) }
-        ensures whole { (s t : List ℕ) → E.Engine.bits self.old.duplex.engine ≡ appended s t → E.Engine.bits self.new.duplex.engine ≡ absorbed_unkeyed s t }
+        ensures moved { E.bits self.new.duplex.engine ≡ ended (E.bits self.old.duplex.engine) }
+        ensures whole { (s t : List ℕ) → E.bits self.old.duplex.engine ≡ appended s t → E.bits self.new.duplex.engine ≡ absorbed_unkeyed s t }
         ensures begun { self.new.begun ≡ false }
     {
         self.duplex.blank(2);
@@ -60,7 +54,7 @@ impl<E: Engine> Feeding<E> {
 
     // Ends a string that has begun, and goes over to squeezing.
     pub fn finish(mut self) -> Squeezing<E>
-        ensures { E.Engine.bits result.duplex.engine ≡ finished (E.Engine.bits self.duplex.engine) self.begun }
+        ensures { E.bits result.duplex.engine ≡ finished (E.bits self.duplex.engine) self.begun }
     {
         self.end_begun();
         let Feeding {
@@ -73,7 +67,7 @@ impl<E: Engine> Feeding<E> {
 
     // Ends a string that has begun.
     fn end_begun(&mut self)
-        ensures { E.Engine.bits self.new.duplex.engine ≡ all_ended (E.Engine.bits self.old.duplex.engine) self.old.begun }
+        ensures { E.bits self.new.duplex.engine ≡ all_ended (E.bits self.old.duplex.engine) self.old.begun }
     {
         if self.begun {
             self.end_string();
@@ -84,8 +78,8 @@ impl<E: Engine> Feeding<E> {
 impl<E: Engine> Squeezing<E> {
     // Fills `out`. Each call takes readings of its own, and drops the bytes that are over.
     pub fn squeeze(&mut self, out: &mut [u8])
-        ensures sum { out.new ≡ squeezed (E.Engine.bits self.old.duplex.engine) (length out.old) }
-        ensures moved { E.Engine.bits self.new.duplex.engine ≡ drained (E.Engine.bits self.old.duplex.engine) (length out.old) }
+        ensures sum { out.new ≡ squeezed (E.bits self.old.duplex.engine) (length out.old) }
+        ensures moved { E.bits self.new.duplex.engine ≡ drained (E.bits self.old.duplex.engine) (length out.old) }
     {
         self.duplex.squeeze(out);
     }

@@ -3,6 +3,7 @@ use Rattle.std.proofs.Common.{◌≡◌, ℕ, ◌+◌, ◌-◌, ◌<◌, ◌≤�
 use Rattle.std.specs.Str.{bytes_eq}
 use Rattle.std.proofs.lemmas.Slice.Eq.{bytes_eq-Decides}
 use Rattle.std.proofs.lemmas.List.{length-append, take_at, drop_at, take-append-drop, drop-drop}
+use Rattle.std.proofs.lemmas.Bool.Decides.{nat_tests}
 use Rattle.std.proofs.lemmas.Bool.{lt-ltb, eq-eqb, ltb-true, eqb-true}
 use Rattle.duplex.specs.Strings.{word_bytes}
 use Rattle.session.specs.declared.fault.SessionFault.TheVariants.{Tag}
@@ -16,6 +17,7 @@ use Rattle.link.specs.Kinds.{kind_byte, text_length, least_room, kind_of}
 use Rattle.link.specs.Frames.{Standing, largest_number, header_length, overhead, associated, header_in, number_in, body_in, tag_in, text_in}
 use Rattle.link.specs.Sender.{frame_of, next_of, ready, written, held, writes, fed, CouldWrite}
 use Rattle.link.specs.Calls.{Checked, checked, opened, take_answer, take_standing}
+use Rattle.link.proofs.Tellings.{short_text}
 use Rattle.link.proofs.Takings.{Fit, Seen, seen_is, passes, answer_ok, length_body}
 
 -- Kinds and their bytes.
@@ -28,21 +30,8 @@ kind_byte_of Clock = refl
 kind_byte_of ZoneName = refl
 kind_byte_of Heartbeat = refl
 
-at_one : (b n : ℕ) (j k : Kind) (rest : Option Kind) → (rest ≡ Some k → b ≡ kind_byte k) → kind_byte j ≡ n → (x : Bool) → eqb b n ≡ x → cond x (Some j) rest ≡ Some k → b ≡ kind_byte k
-at_one b n j k rest f e true h p = let q : j ≡ k = cc in eqb-true b n h ∙ sym e ∙ ap kind_byte q
-at_one b n j k rest f e false h p = f p
-
 pub byte_of_kind : (b : ℕ) (k : Kind) → kind_of b ≡ Some k → b ≡ kind_byte k
-byte_of_kind b k =
-    at_one b 1 PollValue k _ (at_one b 2 Alarm k _ (at_one b 3 Output k _ (at_one b 4 Clock k _ (at_one b 5 ZoneName k _ (at_one b 6 Heartbeat k None (λ p. let z : ◌≡◌ {A = ℕ} 0 1 = cc in absurd (omega arith)) refl (eqb b 6) refl) refl (eqb b 5) refl) refl (eqb b 4) refl) refl (eqb b 3) refl) refl (eqb b 2) refl) refl (eqb b 1) refl
-
-roomy : (k : Kind) (n : ℕ) → least_room ≤ n → text_length k ≤ n
-roomy PollValue n h = omega arith
-roomy Alarm n h = omega arith
-roomy Output n h = omega arith
-roomy Clock n h = omega arith
-roomy ZoneName n h = h
-roomy Heartbeat n h = omega arith
+byte_of_kind b k h = grind (arith, nat_tests)
 
 -- What a frame that the sender writes is made of.
 
@@ -54,13 +43,13 @@ pub record Wrote (m : Standing) (b : ℕ) (t f : List ℕ) : Type 0 where
   pub frame : f ≡ frame_of m kind t
 
 wrote_at : (m : Standing) (b : ℕ) (t f : List ℕ) (o : Option Kind) → kind_of b ≡ o → written m o t ≡ Some f → Wrote m b t f
-wrote_at m b t f None e h = let z : ◌≡◌ {A = ℕ} 0 1 = cc in absurd (omega arith)
+wrote_at m b t f None e h = cc
 wrote_at m b t f (Some k) e h = at (ltb m.number largest_number) refl (eqb (length t) (text_length k)) refl h
   where
     at : (x : Bool) → ltb m.number largest_number ≡ x → (y : Bool) → eqb (length t) (text_length k) ≡ y → cond (x && y) (Some (frame_of m k t)) None ≡ Some f → Wrote m b t f
     at true p true q r = record { kind = k; byte = byte_of_kind b k e; below = ltb-true m.number largest_number p; size = eqb-true (length t) (text_length k) q; frame = cc }
-    at true p false q r = let z : ◌≡◌ {A = ℕ} 0 1 = cc in absurd (omega arith)
-    at false p y q r = let z : ◌≡◌ {A = ℕ} 0 1 = cc in absurd (omega arith)
+    at true p false q r = cc
+    at false p y q r = cc
 
 pub wrote : (m : Standing) (b : ℕ) (t f : List ℕ) → writes m b t ≡ Some f → Wrote m b t f
 unfolding writes
@@ -160,11 +149,10 @@ module _ (m : Standing) (f : List ℕ) (room : ℕ) (k : Kind) where
 
   accepted_at : (r : Checked) → r ≡ checked m.number f room → (x : Bool) → opens m.state (header_in f) (body_in f) (tag_in f) ≡ x → opened m f r ≡ Ok k → Accepted
   unfolding frame_of
-  accepted_at (Err e) s x o h = let z : ◌≡◌ {A = ℕ} 0 1 = cc in absurd (omega arith)
+  accepted_at (Err e) s x o h = cc
   accepted_at (Ok j) s false o h =
       let h2 : opened m f (Ok j) ≡ Err (Session (Tag (length (body_in f)))) = ap (λ y. cond y (Ok j) (Err (Session (Tag (length (body_in f)))))) o in
-      let z : ◌≡◌ {A = ℕ} 0 1 = cc in
-      absurd (omega arith)
+      cc
   accepted_at (Ok j) s true o h =
       let h2 : opened m f (Ok j) ≡ Ok j = ap (λ y. cond y (Ok j) (Err (Session (Tag (length (body_in f)))))) o in
       let same : j ≡ k = cc in
@@ -201,7 +189,7 @@ module _ (m : Standing) (f : List ℕ) (room : ℕ) (k : Kind) where
 
 accepts_written : (m : Standing) (b : ℕ) (t f : List ℕ) (room : ℕ) → least_room ≤ room → (w : Wrote m b t f) → (take_answer m f room ≡ Ok w.kind) × (text_in m f ≡ t)
 accepts_written m b t f room h w = (
-  ap (λ g. take_answer m g room) w.frame ∙ accepted_frame m w.kind t w.below w.size room (roomy w.kind room h),
+  ap (λ g. take_answer m g room) w.frame ∙ accepted_frame m w.kind t w.below w.size room (omega (arith, short_text w.kind)),
   ap (text_in m) w.frame ∙ frame_text m w.kind t,
 )
 
@@ -218,5 +206,4 @@ only m b c t u f p q =
 pub refused_never : (m : Standing) (f : List ℕ) (room : ℕ) (e : LinkFault) → least_room ≤ room → take_answer m f room ≡ Err e → CouldWrite m f → ⊥
 refused_never m f room e h a w =
     let x = (accepts_written m w.0 w.1 f room h (wrote m w.0 w.1 f w.2)).0 in
-    let z : ◌≡◌ {A = ℕ} 0 1 = cc in
-    omega arith
+    cc

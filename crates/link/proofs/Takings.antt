@@ -1,7 +1,7 @@
 -- What the checks on a frame and its opening answer, case by case.
-use Rattle.std.proofs.Common.{◌≡◌, ℕ, ◌+◌, ◌-◌, ◌<◌, ◌≤◌, Bool, true, false, cond, eqb, ltb, List, [], ◌∷◌, ◌++◌, length, get_or, take, drop, replicate, Some, None, Ok, Err, Option, sym, refl, ap, ◌∙◌, subst, arith}
+use Rattle.std.proofs.Common.{◌≡◌, ℕ, ◌+◌, ◌<◌, ◌≤◌, Bool, true, false, cond, eqb, ltb, List, ◌++◌, length, get_or, drop, replicate, Some, None, Ok, Err, Option, sym, refl, ap, ◌∙◌, subst, arith}
 use Rattle.std.specs.Str.{bytes_eq}
-use Rattle.std.proofs.lemmas.List.{length-take, length-drop, take_rest}
+use Rattle.std.proofs.lemmas.List.{length-take, length-drop}
 use Rattle.std.proofs.lemmas.Bool.{lt-ltb, le-ltb, eq-eqb, ne_eqb, ltb-true, ltb-false, eqb-true, eqb-false}
 use Rattle.duplex.specs.Strings.{word_bytes}
 use Rattle.session.specs.declared.fault.SessionFault.{SessionFault}
@@ -25,7 +25,7 @@ pub data Fit (n : ℕ) (f : List ℕ) (room : ℕ) (k : Kind) : Checked → Type
 
 module _ (n : ℕ) (f : List ℕ) (room : ℕ) (k : Kind) where
   -- the checks answer what is known
-  pub fit_is : {r : Checked} → Fit n f room k r → r ≡ fitting n f room k
+  fit_is : {r : Checked} → Fit n f room k r → r ≡ fitting n f room k
   fit_is (long l) = sym (rw (ne_eqb (length f) (text_length k + overhead) l) refl)
   fit_is (short l s) = sym (rw (eq-eqb (length f) (text_length k + overhead) l, lt-ltb room (text_length k) s) refl)
   fit_is (other l s e) = sym (rw (eq-eqb (length f) (text_length k + overhead) l, le-ltb room (text_length k) s, e) refl)
@@ -54,7 +54,7 @@ pub data Seen (n : ℕ) (f : List ℕ) (room : ℕ) : Checked → Type 0 where
   known_kind : {r : Checked} (k : Kind) → n < largest_number → (length f ≡ 0 → ⊥) → kind_of (get_or f 0 0) ≡ Some k → Fit n f room k r → Seen n f room r
 
 module _ (n : ℕ) (f : List ℕ) (room : ℕ) where
-  pub checked_kind : n < largest_number → (length f ≡ 0 → ⊥) → (o : Option Kind) → kind_of (get_or f 0 0) ≡ o → checked n f room ≡ known n f room o
+  checked_kind : n < largest_number → (length f ≡ 0 → ⊥) → (o : Option Kind) → kind_of (get_or f 0 0) ≡ o → checked n f room ≡ known n f room o
   unfolding checked
   checked_kind h z o e = rw (lt-ltb n largest_number h, ne_eqb (length f) 0 z) (ap (known n f room) e)
 
@@ -127,45 +127,29 @@ module _ (m : Standing) (f : List ℕ) (room : ℕ) where
 pub length_body : (f : List ℕ) (n : ℕ) → length f ≡ n + overhead → length (body_in f) ≡ n
 length_body f n h = simp (length-take, length-drop) (omega arith)
 
--- the parts of a frame, as the program cuts them
-pub body_is : (f : List ℕ) → take (length f - 16 - 5) (drop 5 f) ≡ body_in f
-body_is f = let e : length f - 16 - 5 ≡ length f - 21 = omega arith in ap (λ n. take n (drop 5 f)) e
-
-pub tag_is : (f : List ℕ) → take (length f - (length f - 16)) (drop (length f - 16) f) ≡ tag_in f
-tag_is f = take_rest f (length f - 16)
-
--- an opening on a copy of the session, of a frame that passed the checks
-module _ (m : Standing) (f old s tag body : List ℕ) (k : Kind) (same : s ≡ m.state) (et : tag ≡ tag_in f) (eb : body ≡ body_in f) (h : Ok k ≡ checked m.number f (length old)) where
-  opening : open_answer s (header_in f) body tag (length old) ≡ verdict (body_in f) (opens m.state (header_in f) (body_in f) (tag_in f))
+-- an opening on a copy of the session, of a frame that passed the checks and was cut into its parts
+module _ (m : Standing) (f old s header body tag : List ℕ) (k : Kind) (same : s ≡ m.state) (eh : header ≡ header_in f) (eb : body ≡ body_in f) (et : tag ≡ tag_in f) (h : Ok k ≡ checked m.number f (length old)) where
+  opening : open_answer s header body tag (length old) ≡ verdict (body_in f) (opens m.state (header_in f) (body_in f) (tag_in f))
   opening =
       let p = passes m.number f (length old) k h in
       let n = length_body f (text_length k) p.size in
       let fits : length (body_in f) ≤ length old = omega (arith, p.roomy) in
-      rw (same, et, eb) (open_fits m.state (header_in f) (body_in f) (tag_in f) (length old) fits)
+      rw (same, eh, eb, et) (open_fits m.state (header_in f) (body_in f) (tag_in f) (length old) fits)
 
-  pub took_ok : (n : ℕ) → Ok n ≡ open_answer s (header_in f) body tag (length old) → (n ≡ length (body_in f)) × (Ok k ≡ take_answer m f (length old))
+  pub took_ok : (n : ℕ) → Ok n ≡ open_answer s header body tag (length old) → (n ≡ length (body_in f)) × (Ok k ≡ take_answer m f (length old))
   took_ok n e = at (opens m.state (header_in f) (body_in f) (tag_in f)) refl (e ∙ opening)
     where
       at : (b : Bool) → opens m.state (header_in f) (body_in f) (tag_in f) ≡ b → Ok n ≡ verdict (body_in f) b → (n ≡ length (body_in f)) × (Ok k ≡ take_answer m f (length old))
       at true o x = (cc, sym (answer_ok m f (length old) k h o))
-      at false o x = let z : ◌≡◌ {A = ℕ} 0 1 = cc in absurd (omega arith)
+      at false o x = cc
 
-  pub took_tag : (y : SessionFault) → Err y ≡ open_answer s (header_in f) body tag (length old) → (y ≡ Tag (length (body_in f))) × (Err (Session y) ≡ take_answer m f (length old))
+  pub took_tag : (y : SessionFault) → Err y ≡ open_answer s header body tag (length old) → (y ≡ Tag (length (body_in f))) × (Err (Session y) ≡ take_answer m f (length old))
   took_tag y e = at (opens m.state (header_in f) (body_in f) (tag_in f)) refl (e ∙ opening)
     where
       at : (b : Bool) → opens m.state (header_in f) (body_in f) (tag_in f) ≡ b → Err y ≡ verdict (body_in f) b → (y ≡ Tag (length (body_in f))) × (Err (Session y) ≡ take_answer m f (length old))
-      at true o x = let z : ◌≡◌ {A = ℕ} 0 1 = cc in absurd (omega arith)
+      at true o x = cc
       at false o x = let q : y ≡ Tag (length (body_in f)) = cc in (q, ap (λ v. Err (Session v)) q ∙ sym (answer_tag m f (length old) k h o))
 
   -- the zeros that it leaves
-  pub zeroed : open_out s (header_in f) body old (Err (Tag (length (body_in f)))) ≡ replicate (length (body_in f)) 0 ++ drop (length (body_in f)) old
-  zeroed = rw (same, eb) (ap (λ n. replicate n 0 ++ drop (length (body_in f)) old) (length-plain m.state (header_in f) (body_in f)))
-
--- the four bytes of the number, by name
-pub number_bytes : (f : List ℕ) → 5 ≤ length f → number_in f ≡ get_or f 1 0 ∷ get_or f 2 0 ∷ get_or f 3 0 ∷ get_or f 4 0 ∷ []
-number_bytes [] h = absurd (omega arith)
-number_bytes (a ∷ []) h = absurd (omega arith)
-number_bytes (a ∷ b ∷ []) h = absurd (omega arith)
-number_bytes (a ∷ b ∷ c ∷ []) h = absurd (omega arith)
-number_bytes (a ∷ b ∷ c ∷ d ∷ []) h = absurd (omega arith)
-number_bytes (a ∷ b ∷ c ∷ d ∷ e ∷ f) h = refl
+  pub zeroed : (y : SessionFault) → y ≡ Tag (length (body_in f)) → open_out s header body old (Err y) ≡ take_text m f old (Err (Session y))
+  zeroed y e = rw (e, same, eh, eb) (ap (λ n. replicate n 0 ++ drop (length (body_in f)) old) (length-plain m.state (header_in f) (body_in f)))

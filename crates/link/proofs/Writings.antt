@@ -1,11 +1,6 @@
--- What the checks on a text answer, case by case, and the frame in the buffer.
-use Rattle.std.proofs.Common.{◌≡◌, ℕ, ◌+◌, ◌-◌, ◌<◌, ◌≤◌, Bool, true, false, cond, eqb, ltb, List, [], ◌++◌, length, take, drop, Some, None, Ok, Err, Option, sym, refl, ap, ◌∙◌, subst, arith}
-use borrow.Rule.Slice.PartMut.{put_mid}
-use Rattle.std.proofs.lemmas.List.{append_assoc, append-nil, length-append, take_at, drop_at, drop_all, length-take, length-drop}
+-- What the checks on a text answer, case by case.
+use Rattle.std.proofs.Common.{◌≡◌, ℕ, ◌+◌, ◌<◌, ◌≤◌, Bool, true, false, cond, eqb, ltb, List, length, Some, None, Ok, Err, Option, sym, refl, ap, ◌∙◌, subst}
 use Rattle.std.proofs.lemmas.Bool.{lt-ltb, le-ltb, eq-eqb, ne_eqb, ltb-true, ltb-false, eqb-true, eqb-false}
-use Rattle.session.specs.Sessions.{cipher, tag_of, after}
-use Rattle.session.specs.Calls.{Answer, seal_answer, seal_bits, seal_out, seal_tag}
-use Rattle.session.proofs.SessionLaws.{seal_fits}
 use Rattle.link.specs.declared.kind.Kind.{Kind}
 use Rattle.link.specs.declared.fault.LinkFault.TheVariants.{Spent, UnknownKind, WrongLength, ShortBuffer}
 use Rattle.link.specs.Kinds.{text_length, kind_of}
@@ -68,43 +63,3 @@ ready_of (passed k h e l r) = record { below = h; kind = e; size = l; roomy = r 
 
 pub readied : (n b : ℕ) (t : List ℕ) (room : ℕ) (k : Kind) → Ok k ≡ vetted n b t room → Ready n b t room k
 readied n b t room k h = ready_of (subst (Vetted n b t room) (sym h) (view n b t room))
-
--- a write past a front
-put_at : (p q y : List ℕ) (n k : ℕ) → length p ≡ n → put_mid n k (p ++ q) y ≡ p ++ (y ++ drop k q)
-put_at p q y n k h = let a = take_at p q n h in let b = drop_at p q n h in cc
-
--- the three writes of a frame into a buffer of just its length: a header, n bytes of ciphertext, a tag
-pub laid : (out x y z h c g : List ℕ) (n : ℕ) → x ≡ h → y ≡ c → z ≡ g → length h ≡ 5 → length c ≡ n → length out ≡ n + 21
-    → put_mid (5 + n) (5 + n + 16 - (5 + n)) (put_mid 5 (5 + n - 5) (x ++ drop 5 out) y) z ≡ h ++ (c ++ g)
-laid out x y z h c g n ex ey ez lh lc lo =
-    let rest = drop (5 + n - 5) (drop 5 out) in
-    let one = put_at h (drop 5 out) c 5 (5 + n - 5) lh in
-    let join = append_assoc h c rest in
-    let lhc : length (h ++ c) ≡ 5 + n = length-append h c ∙ omega arith in
-    let two = put_at (h ++ c) rest g (5 + n) (5 + n + 16 - (5 + n)) lhc in
-    let none : drop (5 + n + 16 - (5 + n)) rest ≡ [] = drop_all (5 + n + 16 - (5 + n)) rest (simp length-drop (omega arith)) in
-    let nil = append-nil g in
-    let back = append_assoc h c g in
-    rw (ex, ey, ez) (cc)
-
--- the part for the ciphertext
-pub length_part : (out x : List ℕ) (n : ℕ) → length x ≡ 5 → length out ≡ n + 21 → length (take (5 + n - 5) (drop 5 (x ++ drop 5 out))) ≡ n
-length_part out x n lx lo = rw (drop_at x (drop 5 out) 5 lx) (simp (length-take, length-drop) (omega arith))
-
--- Sealing into a part of just the text's length.
-pub record Sealed (s ad t part : List ℕ) (r : Answer) : Type 0 where
-  pub value : r ≡ Ok (length t)
-  pub moved : seal_bits s ad t r ≡ after s ad t
-  pub out : seal_out s ad t part r ≡ cipher s ad t
-  pub tag : (old : List ℕ) → seal_tag s ad t old r ≡ tag_of s ad t
-
-pub sealed : (s ad t part : List ℕ) (r : Answer) → length part ≡ length t → r ≡ seal_answer t (length part) → Sealed s ad t part r
-sealed s ad t part r n e =
-    let v = e ∙ seal_fits t (length part) (omega arith) in
-    let none = drop_all (length t) part (omega arith) in
-    record {
-      value = v;
-      moved = ap (seal_bits s ad t) v;
-      out = ap (seal_out s ad t part) v ∙ (ap (λ r. cipher s ad t ++ r) none ∙ append-nil (cipher s ad t));
-      tag = λ old. ap (seal_tag s ad t old) v;
-    }

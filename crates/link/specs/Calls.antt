@@ -8,26 +8,25 @@ use Rattle.session.specs.Sessions.{after, opens}
 use Rattle.link.specs.declared.kind.Kind.{Kind}
 use Rattle.link.specs.declared.fault.LinkFault.{LinkFault}
 use Rattle.link.specs.declared.fault.LinkFault.TheVariants.{Spent, Empty, UnknownKind, WrongLength, ShortBuffer, WrongNumber, Session}
-use Rattle.link.specs.declared.receiving.ReceivingEnd.{ReceivingEnd}
-use Rattle.link.specs.declared.sending.SendingEnd.{SendingEnd}
+use Rattle.link.specs.declared.ends.End.{End}
+use Rattle.link.specs.declared.ends.Sending.{Sending}
+use Rattle.link.specs.declared.ends.Receiving.{Receiving}
 use Rattle.link.specs.Kinds.{text_length, kind_of}
 use Rattle.link.specs.Frames.{Standing, standing_of, largest_number, overhead, header_in, number_in, body_in, tag_in, text_in}
 use Rattle.link.specs.Sender.{frame_of, next_of}
 
 -- where an end stands, by what its engine means
 module _ {E : Type 0} (bits : E → List ℕ) where
-  abbrev pub receiving : ReceivingEnd E → Standing
-  receiving r = record { state = session_bits bits r.session; number = r.number.value }
+  abbrev pub stands : {D : Type 0} → End E D → Standing
+  stands e = standing_of (session_bits bits e.session) e.number.value
 
-  abbrev pub sending : SendingEnd E → Standing
-  sending r = record { state = session_bits bits r.session; number = r.number.value }
+  abbrev pub sending : End E Sending → Standing
+  sending = stands
 
--- Where an end stands, if there is one; and where one stands that goes on from bits and a number that were kept.
+  abbrev pub receiving : End E Receiving → Standing
+  receiving = stands
 
-abbrev pub placed : {X : Type 0} → (X → Standing) → Option X → Option Standing
-placed f None = None
-placed f (Some e) = Some (f e)
-
+-- where an end stands that goes on from bits and a number that were kept, if there is one
 abbrev pub resumed : List ℕ → ℕ → Option Standing
 resumed s n = cond (nat_lt largest_number n) None (Some (standing_of s n))
 

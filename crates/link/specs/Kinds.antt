@@ -1,6 +1,8 @@
 -- The table of kinds: the byte that stands for each, and the length of its text.
-use Rattle.std.specs.Prelude.{ℕ, cond, Some, None, Option, ◌==◌}
+use Rattle.std.specs.Prelude.{ℕ, cond, Some, None, Option, Result, ◌==◌}
+use Rattle.std.specs.Option.{ok_or}
 use Rattle.link.specs.declared.kind.Kind.{Kind}
+use Rattle.link.specs.declared.kind.UnknownKind.{UnknownKind}
 use Rattle.link.specs.declared.kind.Kind.TheVariants.{PollValue, Alarm, Output, Clock, ZoneName, Heartbeat}
 
 abbrev pub kind_byte : Kind → ℕ
@@ -27,3 +29,7 @@ least_room = 32
 abbrev pub kind_of : ℕ → Option Kind
 kind_of b =
     cond (b == 1) (Some PollValue) (cond (b == 2) (Some Alarm) (cond (b == 3) (Some Output) (cond (b == 4) (Some Clock) (cond (b == 5) (Some ZoneName) (cond (b == 6) (Some Heartbeat) None)))))
+
+-- the same, as a conversion answers it
+abbrev pub kind_found : ℕ → Result Kind UnknownKind
+kind_found b = ok_or (kind_of b) (record { 0 = b })

@@ -4,3 +4,4 @@ pub mod Sender
 pub mod Refusals
 pub mod Calls
 pub mod Figures
+pub mod Texts

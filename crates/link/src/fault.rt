@@ -1,13 +1,17 @@
 // Why an end refuses.
-ghost use Rattle.std.specs.Prelude.{◌≡◌};
-ghost use Rattle.link.specs.declared.fault.LinkFault.TheVariants.{Session as InSession};
+ghost use Rattle.std.specs.Prelude.{◌≡◌, Some};
+ghost use Rattle.link.specs.declared.fault.LinkFault.TheVariants.{UnknownKind as NoKind, Session as InSession};
 ghost use Rattle.link.specs.Refusals.{told};
+ghost use Rattle.link.specs.Texts.{fault_text};
 
 use crate::frame::HEADER;
+use crate::kind::UnknownKind;
 use refusals::{Layer, Refusal};
 use session::SessionFault;
+use std::error::Error;
+use std::fmt;
 
-#[derive(Clone, Copy)]
+#[derive(Clone, Copy, Debug, PartialEq, Eq)]
 pub enum LinkFault {
     // the end has come to the largest number
     Spent,
@@ -30,12 +34,20 @@ impl From<SessionFault> for LinkFault {
     }
 }
 
-impl LinkFault {
-    // The refusal's number, layer and place.
-    pub fn refusal(self) -> Refusal
-        ensures { result ≡ told self }
-    {
-        let (number, place) = match self {
+impl From<UnknownKind> for LinkFault {
+    ghost from_gives = { λ _ fault. fault ≡ NoKind };
+
+    fn from(_byte: UnknownKind) -> LinkFault {
+        LinkFault::UnknownKind
+    }
+}
+
+// The refusal's number, layer and place.
+impl From<LinkFault> for Refusal {
+    ghost from_gives = { λ fault r. r ≡ told fault };
+
+    fn from(fault: LinkFault) -> Refusal {
+        let (number, place) = match fault {
             LinkFault::Spent => (1, 0),
             LinkFault::Empty => (2, 0),
             LinkFault::UnknownKind => (3, 0),
@@ -56,10 +68,27 @@ impl LinkFault {
 fn within_frame(fault: SessionFault) -> Refusal
     ensures { result ≡ told (InSession fault) }
 {
-    let inner = fault.refusal();
+    let inner = Refusal::from(fault);
     Refusal {
-        number: inner.number,
-        layer: inner.layer,
         place: inner.place.saturating_add(HEADER),
+        ..inner
     }
 }
+
+impl fmt::Display for LinkFault {
+    ghost output = { λ fault. Some (fault_text fault) };
+
+    fn fmt<W: fmt::Write>(&self, f: &mut fmt::Formatter<W>) -> fmt::Result {
+        f.write_str(match self {
+            LinkFault::Spent => "the end has come to 1000000",
+            LinkFault::Empty => "the frame has no byte",
+            LinkFault::UnknownKind => "unknown kind",
+            LinkFault::WrongLength { .. } => "not the length of its kind",
+            LinkFault::ShortBuffer { .. } => "the buffer is too short",
+            LinkFault::WrongNumber => "the frame's number is not the end's",
+            LinkFault::Session(inner) => return inner.fmt(f),
+        })
+    }
+}
+
+impl Error for LinkFault {}

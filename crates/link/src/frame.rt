@@ -1,5 +1,5 @@
 // What a frame is made of: a kind byte, a number in four bytes, a ciphertext and a tag.
-ghost use Rattle.std.specs.Prelude.{◌≡◌, ◌≤◌};
+ghost use Rattle.std.specs.Prelude.{◌≡◌, ◌+◌, ◌<◌, ◌≤◌, not, nat_lt};
 ghost use Rattle.link.specs.Kinds.{kind_byte};
 ghost use Rattle.link.specs.Frames.{largest_number, associated};
 
@@ -13,7 +13,7 @@ pub const TAG: usize = 16;
 // How much longer a frame is than its text.
 pub const OVERHEAD: usize = HEADER + TAG;
 
-// An end that has come to this number neither writes nor takes.
+// The largest number: an end that has come to it neither writes nor takes.
 pub const LARGEST: u32 = 1_000_000;
 
 // How many frames an end has written or taken.
@@ -23,10 +23,27 @@ pub struct Number {
     ghost within: { value ≤ largest_number },
 }
 
+impl Number {
+    pub(crate) fn is_largest(self) -> bool
+        ensures { result ≡ not (nat_lt self.value largest_number) }
+    {
+        self.value >= LARGEST
+    }
+
+    pub(crate) fn next(self) -> Number
+        requires { self.value < largest_number }
+        ensures { result.value ≡ self.value + 1 }
+    {
+        Number {
+            value: self.value + 1,
+        }
+    }
+}
+
 // The bytes before the ciphertext.
-pub fn header(kind: Kind, number: u32) -> [u8; 5]
-    ensures { result ≡ associated (kind_byte kind) number }
+pub fn header(kind: Kind, number: Number) -> [u8; HEADER]
+    ensures { result ≡ associated (kind_byte kind) number.value }
 {
-    let [n0, n1, n2, n3] = number.to_le_bytes();
-    [kind.byte(), n0, n1, n2, n3]
+    let [n0, n1, n2, n3] = number.value.to_le_bytes();
+    [u8::from(kind), n0, n1, n2, n3]
 }

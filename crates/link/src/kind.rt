@@ -1,8 +1,12 @@
 // The kinds of frames.
-ghost use Rattle.std.specs.Prelude.{◌≡◌};
-ghost use Rattle.link.specs.Kinds.{kind_byte, text_length, kind_of};
+ghost use Rattle.std.specs.Prelude.{◌≡◌, Some};
+ghost use Rattle.link.specs.Kinds.{kind_byte, text_length, kind_found};
+ghost use Rattle.link.specs.Texts.{no_kind_text};
 
-#[derive(Clone, Copy)]
+use std::error::Error;
+use std::fmt;
+
+#[derive(Clone, Copy, Debug, PartialEq, Eq)]
 pub enum Kind {
     PollValue,
     Alarm,
@@ -12,34 +16,19 @@ pub enum Kind {
     Heartbeat,
 }
 
-impl Kind {
-    // The kind that a byte stands for, if any.
-    pub fn of(byte: u8) -> Option<Kind>
-        ensures { result ≡ kind_of byte }
-    {
-        match byte {
-            1 => Some(Kind::PollValue),
-            2 => Some(Kind::Alarm),
-            3 => Some(Kind::Output),
-            4 => Some(Kind::Clock),
-            5 => Some(Kind::ZoneName),
-            6 => Some(Kind::Heartbeat),
-            _ => None,
-        }
-    }
+// A byte that stands for no kind.
+#[derive(Clone, Copy, Debug, PartialEq, Eq)]
+pub struct UnknownKind(pub u8);
 
-    pub fn byte(self) -> u8
-        ensures { result ≡ kind_byte self }
-    {
-        match self {
-            Kind::PollValue => 1,
-            Kind::Alarm => 2,
-            Kind::Output => 3,
-            Kind::Clock => 4,
-            Kind::ZoneName => 5,
-            Kind::Heartbeat => 6,
-        }
-    }
+impl Kind {
+    pub const ALL: [Kind; 6] = [
+        Kind::PollValue,
+        Kind::Alarm,
+        Kind::Output,
+        Kind::Clock,
+        Kind::ZoneName,
+        Kind::Heartbeat,
+    ];
 
     // The length of the kind's text.
     pub fn text_len(self) -> usize
@@ -55,3 +44,47 @@ impl Kind {
         }
     }
 }
+
+// The kind that a byte stands for.
+impl TryFrom<u8> for Kind {
+    type Error = UnknownKind;
+
+    ghost try_from_gives = { λ byte r. r ≡ kind_found byte };
+
+    fn try_from(byte: u8) -> Result<Kind, UnknownKind> {
+        match byte {
+            1 => Ok(Kind::PollValue),
+            2 => Ok(Kind::Alarm),
+            3 => Ok(Kind::Output),
+            4 => Ok(Kind::Clock),
+            5 => Ok(Kind::ZoneName),
+            6 => Ok(Kind::Heartbeat),
+            _ => Err(UnknownKind(byte)),
+        }
+    }
+}
+
+impl From<Kind> for u8 {
+    ghost from_gives = { λ kind byte. byte ≡ kind_byte kind };
+
+    fn from(kind: Kind) -> u8 {
+        match kind {
+            Kind::PollValue => 1,
+            Kind::Alarm => 2,
+            Kind::Output => 3,
+            Kind::Clock => 4,
+            Kind::ZoneName => 5,
+            Kind::Heartbeat => 6,
+        }
+    }
+}
+
+impl fmt::Display for UnknownKind {
+    ghost output = { λ unknown. Some (no_kind_text unknown.0) };
+
+    fn fmt<W: fmt::Write>(&self, f: &mut fmt::Formatter<W>) -> fmt::Result {
+        write!(f, "no kind has the byte {}", self.0)
+    }
+}
+
+impl Error for UnknownKind {}

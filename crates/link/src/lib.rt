@@ -1,6 +1,7 @@
 // The link over any engine: kinds, frames, and the two ends. Nothing here allocates.
 #![tactic(auto)]
 
+mod ends;
 mod fault;
 mod figures;
 mod frame;
@@ -8,8 +9,8 @@ mod kind;
 mod receiving;
 mod sending;
 
+pub use ends::{End, Receiving, ReceivingEnd, Sending, SendingEnd};
 pub use fault::LinkFault;
 pub use figures::frame_figures;
-pub use kind::Kind;
-pub use receiving::ReceivingEnd;
-pub use sending::SendingEnd;
+pub use frame::{LARGEST, OVERHEAD};
+pub use kind::{Kind, UnknownKind};

@@ -2,3 +2,4 @@ pub mod Refusals
 pub mod Sessions
 pub mod Calls
 pub mod Figures
+pub mod Texts

@@ -1,10 +1,13 @@
 // Why a session refuses.
-ghost use Rattle.std.specs.Prelude.{◌≡◌};
+ghost use Rattle.std.specs.Prelude.{◌≡◌, Some};
 ghost use Rattle.session.specs.Refusals.{told};
+ghost use Rattle.session.specs.Texts.{fault_text};
 
 use refusals::{Layer, Refusal};
+use std::error::Error;
+use std::fmt;
 
-#[derive(Clone, Copy)]
+#[derive(Clone, Copy, Debug, PartialEq, Eq)]
 pub enum SessionFault {
     // the output buffer is too short
     Short { room: usize },
@@ -12,12 +15,12 @@ pub enum SessionFault {
     Tag { length: usize },
 }
 
-impl SessionFault {
-    // The refusal's number, layer and place.
-    pub fn refusal(self) -> Refusal
-        ensures { result ≡ told self }
-    {
-        let (number, place) = match self {
+// The refusal's number, layer and place.
+impl From<SessionFault> for Refusal {
+    ghost from_gives = { λ fault r. r ≡ told fault };
+
+    fn from(fault: SessionFault) -> Refusal {
+        let (number, place) = match fault {
             SessionFault::Short { room } => (5, room),
             SessionFault::Tag { length } => (7, length),
         };
@@ -28,3 +31,16 @@ impl SessionFault {
         }
     }
 }
+
+impl fmt::Display for SessionFault {
+    ghost output = { λ fault. Some (fault_text fault) };
+
+    fn fmt<W: fmt::Write>(&self, f: &mut fmt::Formatter<W>) -> fmt::Result {
+        f.write_str(match self {
+            SessionFault::Short { .. } => "the buffer is too short",
+            SessionFault::Tag { .. } => "the tag differs",
+        })
+    }
+}
+
+impl Error for SessionFault {}

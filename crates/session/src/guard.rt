@@ -2,7 +2,7 @@
 ghost use Rattle.std.specs.Prelude.{◌≡◌};
 ghost use Rattle.session.specs.Sessions.{shown};
 
-// Bytes that are zeroed when the guard is dropped, unless they were released.
+// Bytes that are zeroed when the guard is dropped, unless they were released. With an `Option` that a release empties, the contract of `drop` could not say what released bytes are.
 pub struct Guard<'a> {
     pub text: &'a mut [u8],
     pub released: bool,

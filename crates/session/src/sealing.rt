@@ -22,6 +22,7 @@ pub struct Keyed<E> {
 }
 
 impl<E: Engine> Keyed<E> {
+    #[tactic(auto, unfolding(crate::specs::Sessions::keyed))]
     pub fn new(key: &Key) -> Keyed<E>
         ensures { keyed_bits E.bits result ≡ keyed key.now.bytes }
     {
@@ -31,6 +32,7 @@ impl<E: Engine> Keyed<E> {
     }
 
     // Begins a session, and gives up the keyed state.
+    #[tactic(auto, unfolding(crate::specs::Sessions::given))]
     pub fn give_nonce(self, nonce: &Nonce) -> Session<E>
         ensures { session_bits E.bits result ≡ given (keyed_bits E.bits self) nonce.now.bytes }
     {
@@ -54,7 +56,7 @@ impl<E: Engine> Session<E> {
         Keyed::new(key).give_nonce(nonce)
     }
 
-    // A second session at the same bits.
+    // A second session at the same bits. Why it is neither `Clone` nor `Copy` stands at `Engine::copy` in crates/duplex.
     pub fn copy(&self) -> Session<E>
         ensures { session_bits E.bits result ≡ session_bits E.bits self.now }
     {
@@ -82,6 +84,7 @@ impl<E: Engine> Session<E> {
     }
 
     // Seals a text into the front of `out`, writes its tag, and answers its length.
+    #[tactic(auto, unfolding(crate::specs::Calls::seal_answer, crate::specs::Refusals::seal_table))]
     pub fn seal(
         &mut self,
         ad: &[u8],
@@ -95,6 +98,7 @@ impl<E: Engine> Session<E> {
         ensures out { out.new ≡ seal_out (session_bits E.bits self.old) ad.now text.now out.old result }
         ensures tag { tag.new.bytes ≡ seal_tag (session_bits E.bits self.old) ad.now text.now tag.old.bytes result }
     {
+        // `open` tests the room so too: a function for both would be no shorter, since each cuts for its own call.
         if out.len() < text.len() {
             return Err(SessionFault::Short { room: out.len() });
         }
@@ -103,6 +107,7 @@ impl<E: Engine> Session<E> {
     }
 
     // Opens a ciphertext into the front of `out`, and answers its length. If the tag differs, the bytes of the text stand at zero.
+    #[tactic(auto, unfolding(crate::specs::Calls::open_answer, crate::specs::Refusals::open_table))]
     pub fn open(
         &mut self,
         ad: &[u8],
@@ -124,6 +129,7 @@ impl<E: Engine> Session<E> {
     }
 
     // Seals into a buffer of just the right length, and gives the tag.
+    #[tactic(auto, unfolding(crate::specs::Sessions::cipher, crate::specs::Sessions::tag_of, crate::specs::Sessions::after))]
     fn seal_whole(&mut self, ad: &[u8], text: &[u8], out: &mut [u8]) -> Tag
         requires { length text.now ≡ length out.old }
         ensures value { result.bytes ≡ tag_of (session_bits E.bits self.old) ad.now text.now }
@@ -137,6 +143,7 @@ impl<E: Engine> Session<E> {
     }
 
     // Opens into a buffer of just the right length.
+    #[tactic(auto, unfolding(crate::specs::Sessions::plain, crate::specs::Sessions::tag_of, crate::specs::Sessions::after, crate::specs::Sessions::opens))]
     fn open_whole(
         &mut self,
         ad: &[u8],
@@ -166,7 +173,7 @@ impl<E: Engine> Session<E> {
         Ok(ciphertext.len())
     }
 
-    // The tag of what has been absorbed.
+    // The tag of what has been absorbed. Digests blank and squeeze so too: two calls each, and a function for both would be no shorter.
     fn squeeze_tag(&mut self) -> Tag
         ensures value { result.bytes ≡ squeezed (blanked (session_bits E.bits self.old) 8) 16 }
         ensures moved { session_bits E.bits self.new ≡ drained (blanked (session_bits E.bits self.old) 8) 16 }

@@ -1,4 +1,4 @@
-// Key, nonce and tag: 16 bytes each, handed over as whole values that cannot stand for one another.
+// Key, nonce and tag: 16 bytes each. They are three types of one shape, so that none can stand for another. None has `==` or `Debug`: tags are compared in constant time, and a key is not to be printed.
 ghost use Rattle.std.specs.Prelude.{◌≡◌};
 ghost use Rattle.std.specs.Str.{bytes_eq};
 
@@ -22,10 +22,11 @@ impl Tag {
     pub fn same(&self, other: &Tag) -> bool
         ensures { result ≡ bytes_eq self.now.bytes other.now.bytes }
     {
-        let mut differences = 0;
-        for i in 0..16 {
-            differences |= self.bytes[i] ^ other.bytes[i];
-        }
+        let differences = self
+            .bytes
+            .iter()
+            .zip(&other.bytes)
+            .fold(0, |found, (a, b)| found | (a ^ b));
         differences == 0
     }
 }

@@ -1,31 +1,21 @@
 -- An entry lies outside, or all lie in the buffer.
-use Rattle.std.proofs.Common.{length, refl, ap, ◌∙◌}
+use Rattle.std.proofs.Common.{length, Some, None, ap, ◌∙◌}
 use Rattle.duplex.specs.Strings.{absorbed_unkeyed, blanked, squeezed}
 use Rattle.refusals.specs.declared.Layer.TheVariants as layer
-use Rattle.refusals.specs.Tables.{refused_by}
-use Rattle.digests.specs.declared.entries.EntryFault.TheVariants.{Digest}
-use Rattle.digests.specs.Entries.{cuts, answered, told}
-use Rattle.digests.proofs.EntryLaws.{entries-tell}
+use Rattle.digests.proofs.EntryLaws.{entries_tell}
+use Rattle.digests.specs.Entries.{cuts}
 use Rattle.digests.specs.Digests.{absorbed_all, digested}
 use Rattle.digests.proofs.lists.digest.Goals as goal
 
-pub returns-in-Some : goal.returns-in-Some
-returns-in-Some g c =
-    let answer = ap (answered Digest) c.in-Some.ensures in
-    record {
-      answer = answer;
-      tells = ap (refused_by told) answer ∙ entries-tell layer.Digest Digest (λ i. refl) (length c.args.buffer.now) c.args.entries.now;
-      bytes = refl;
-    }
+pub returns-in-Some-clause-tells : goal.returns-in-Some-clause-tells
+returns-in-Some-clause-tells g c = entries_tell layer.Digest _ _ (Some c.in-Some.entry) c.in-Some.ensures
 
-pub returns : goal.returns
+pub returns-clause-tells : goal.returns-clause-tells
+returns-clause-tells g c = entries_tell layer.Digest _ _ None c.in_default.ensures
+
+pub returns-clause-bytes : goal.returns-clause-bytes
 unfolding digested
-returns g c =
-    let strings = cuts c.args.buffer.now c.args.entries.now in
-    let answer = ap (answered Digest) c.in_default.ensures in
-    record {
-      answer = answer;
-      tells = ap (refused_by told) answer ∙ entries-tell layer.Digest Digest (λ i. refl) (length c.args.buffer.now) c.args.entries.now;
-      bytes = c.give.ensures
-          ∙ ap (λ s. squeezed (blanked s 8) (length c.args.out.now)) (c.absorb_entries.ensures ∙ ap (λ s. absorbed_all absorbed_unkeyed s strings) c.new-duplex.ensures);
-    }
+returns-clause-bytes g c =
+    c.give.ensures
+    ∙ ap (λ s. squeezed (blanked s 8) (length c.args.out.now))
+    (c.absorb_entries.ensures ∙ ap (λ s. absorbed_all absorbed_unkeyed s (cuts c.args.buffer.now c.args.entries.now)) c.new-duplex.ensures)

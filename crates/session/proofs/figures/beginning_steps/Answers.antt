@@ -1,19 +1,16 @@
 -- Empty steps as blocks, and the lengths of the parts.
-use Rattle.std.proofs.Common.{◌≡◌, ℕ, List, [], ◌∷◌, ◌++◌, replicate, sym, refl, ◌∙◌, arith, length-append}
-use Rattle.duplex.specs.State.{zeros, step}
-use Rattle.duplex.specs.Strings.{padded, blocks, steps, absorbed, blanked}
+use Rattle.std.proofs.Common.{◌≡◌, ℕ, List, [], ◌++◌, replicate, sym, ◌∙◌, arith, length-append}
+use Rattle.duplex.specs.State.{zeros}
+use Rattle.duplex.specs.Strings.{blocks, steps, absorbed, blanked}
+use Rattle.strings.proofs.Blocks.{steps_append}
 use Rattle.session.specs.Sessions.{keyed, given, begun}
 use Rattle.session.specs.Figures.{first_blocks}
 use Rattle.session.proofs.figures.beginning_steps.Goals as goal
 
-steps-append : (s : List ℕ) (x y : List (List ℕ)) → steps s (x ++ y) ≡ steps (steps s x) y
-steps-append s [] y = refl
-steps-append s (b ∷ x) y = steps-append (step s (padded b)) x y
-
 begins : (key nonce : List ℕ) → begun key nonce ≡ steps zeros (first_blocks key nonce)
 unfolding keyed given absorbed blanked
 begins key nonce =
-    sym (steps-append zeros (blocks key) (blocks nonce ++ replicate 8 []) ∙ steps-append (steps zeros (blocks key)) (blocks nonce) (replicate 8 []))
+    sym (steps_append zeros (blocks key) (blocks nonce ++ replicate 8 []) ∙ steps_append (steps zeros (blocks key)) (blocks nonce) (replicate 8 []))
 
 pub returns : goal.returns
 returns c =

@@ -1,10 +1,15 @@
--- Each turn folds one difference.
-use Rattle.std.proofs.Common.{arith}
-use Rattle.session.proofs.Differences.{folds_more, folds_all}
+-- The differences, folded over both rows of bytes.
+use Rattle.std.proofs.Common.{◌≡◌, ap, ◌∙◌, eqb, arith, rules, tests}
+use Rattle.std.specs.List.{fold, zip}
+use Rattle.std.proofs.lemmas.Iterator.{YieldsList-from_slice, YieldsList-from_zip}
+use Rattle.std.proofs.lemmas.Iterator.Consumers.{YieldsList-at, fold_from_yields_List}
+use Rattle.session.proofs.Differences.{join, differences}
 use Rattle.session.proofs.values.Tag.same.Goals as goal
 
-pub loop-i-preserved : goal.loop-i-preserved
-loop-i-preserved c = folds_more c.loop-i.differences c.loop-i.i _ _ (omega arith) (omega arith) c.loop-i.invariant
-
 pub returns : goal.returns
-returns c = folds_all c.loop-i.differences c.loop-i.i _ _ (omega arith) (omega arith) c.loop-i.invariant
+returns c =
+    let xs = c.args.self.now.bytes in
+    let ys = c.args.other.now.bytes in
+    let both = YieldsList-from_zip (YieldsList-at c.zip.ensures.first (YieldsList-from_slice xs c.iter.ensures.rest)) (YieldsList-from_slice ys c.zip.ensures.second.0) in
+    let e : c.fold-differences.result ≡ fold join 0 (zip xs ys) = fold_from_yields_List _ join 0 _ c.fold-differences.ensures.ran both (λ a x b q k. search (rules, tests)) in
+    ap (λ n. eqb n 0) e ∙ differences 0 xs ys (omega arith)
