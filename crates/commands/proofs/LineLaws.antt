@@ -1,13 +1,13 @@
 -- Laws of the lines: a line by its first byte and the rest, as the code takes it apart.
-use Rattle.std.proofs.Common.{◌≡◌, ℕ, ◌+◌, ◌-◌, ◌<◌, ◌≤◌, cond, eqb, List, ◌∷◌, length, get_or, take, drop, Some, Err, Option, sym, ap, ◌∙◌}
+use Rattle.std.proofs.Common.{◌≡◌, ℕ, ◌+◌, ◌-◌, ◌<◌, cond, eqb, List, length, get_or, take, drop, Some, Err, Option, sym, ap, ◌∙◌}
 use Rattle.std.specs.Option.{option_map}
 use Rattle.std.proofs.lemmas.Slice.{first_rest}
-use Rattle.std.proofs.lemmas.Bool.{le-ltb, ne_eqb, eq-eqb}
+use Rattle.std.proofs.lemmas.Bool.{ne_eqb, eq-eqb}
 use Rattle.digits.specs.declared.single.Letters.TheVariants.{Lower}
 use Rattle.digits.specs.Digits.{bad_hex}
 use Rattle.commands.specs.declared.terms.Command.{Command}
-use Rattle.commands.specs.declared.terms.Fault.TheVariants.{Byte, Length}
-use Rattle.commands.specs.Lines.{hex_fault, unless, with_string, count_digits, with_count, by_letter, parsed}
+use Rattle.commands.specs.declared.terms.Fault.TheVariants.{Byte}
+use Rattle.commands.specs.Lines.{hex_fault, unless, with_string, count_digits, with_count}
 
 -- all but the first byte
 abbrev pub tail : List ℕ → List ℕ
@@ -32,15 +32,6 @@ pub count_no_blank : (rest : List ℕ) → 0 < length rest → (get_or rest 0 0 
 unfolding with_count
 count_no_blank rest some no-blank =
     sym (ap with_count (first_rest rest 0 some) ∙ ap (λ t. cond t (count_digits (tail rest)) (Err Byte)) (ne_eqb (get_or rest 0 0) 32 no-blank))
-
--- a short line that is not empty goes by its first byte
-pub first_byte : (line : List ℕ) → length line ≤ 130 → 0 < length line → parsed line ≡ by_letter (get_or line 0 0) (tail line)
-first_byte line short some =
-    let e = first_rest line 0 some in
-    ap parsed e ∙ ap (λ t. cond t (Err Length) (by_letter (get_or line 0 0) (tail line))) (le-ltb 130 (length (get_or line 0 0 ∷ tail line)) (subst-length line (get_or line 0 0 ∷ tail line) e short))
-  where
-    subst-length : (xs ys : List ℕ) → xs ≡ ys → length xs ≤ 130 → length ys ≤ 130
-    subst-length xs ys e h = rw (sym e) h
 
 -- the first bad place of digits that are some
 pub column_of : (xs : List ℕ) (o : Option ℕ) → (length xs ≡ 0 → ⊥) → o ≡ bad_hex Lower xs → option_map (λ place. 3 + place) o ≡ hex_fault xs

@@ -7,7 +7,7 @@ use Rattle.std.proofs.lemmas.List.FromFn.{get_or-range_with_len}
 use Rattle.std.proofs.lemmas.Bool.{eqb-true, leb-true, and_parts, le-ltb, ne_eqb, both_ways}
 use Rattle.duplex.proofs.Tables.{every, every_at}
 use Rattle.digits.specs.declared.single.Letters.TheVariants.{Lower}
-use Rattle.digits.specs.Pairs.{hex, unhex}
+use Rattle.digits.specs.Pairs.{hex, unhex_by}
 use Rattle.digits.proofs.HexLaws.{length-hex, sound-hex, unhex-hex}
 use Rattle.commands.specs.declared.terms.Command.{Command}
 use Rattle.commands.specs.declared.terms.Fault.{Fault}
@@ -37,8 +37,8 @@ string_follows command b t h = ap (λ o. unless o command) (no_fault b t h)
 pub short_enough : (c : ℕ) (rest : List ℕ) → length rest ≤ 129 → parsed (c ∷ rest) ≡ by_letter c rest
 short_enough c rest h = ap (λ t. cond t (Err Length) (by_letter c rest)) (le-ltb 130 (length (c ∷ rest)) (omega arith))
 
-pub string_back : (t : List ℕ) → ShortString t → unhex (hex t) ≡ t
-string_back t s = unhex-hex t s.bytes
+pub string_back : (t : List ℕ) → ShortString t → unhex_by Lower (hex t) ≡ t
+string_back t s = unhex-hex Lower t s.bytes
 
 -- counts
 abbrev counts : Result ℕ Fault → ℕ → Bool

@@ -3,7 +3,7 @@ use Rattle.std.specs.Prelude.{ℕ, ◌+◌, ◌-◌, ◌*◌, ◌≤◌, cond, �
 use Rattle.std.specs.Option.{option_map}
 use Rattle.digits.specs.declared.single.Letters.TheVariants.{Lower}
 use Rattle.digits.specs.Digits.{char_of, is_decimal, bad_hex}
-use Rattle.digits.specs.Pairs.{unhex}
+use Rattle.digits.specs.Pairs.{unhex_by}
 use Rattle.commands.specs.declared.terms.Command.{Command}
 use Rattle.commands.specs.declared.terms.Command.TheVariants.{Zero, Absorb, AbsorbUnkeyed, Encrypt, Decrypt, Blank, Squeeze}
 use Rattle.commands.specs.declared.terms.Fault.{Fault}
@@ -67,7 +67,7 @@ parsed line = cond (nat_lt 130 (length line)) (Err Length) (short_line line)
 
 -- the string of a line with a string command: the digits begin at its third byte
 abbrev pub string_of : List ℕ → List ℕ
-string_of line = unhex (drop 2 line)
+string_of line = unhex_by Lower (drop 2 line)
 
 -- a count is at most 64
 abbrev pub Within : Command → Type 0

@@ -15,10 +15,8 @@ fn bad_column(digits: &[u8]) -> Option<usize>
     if digits.is_empty() {
         return Some(3);
     }
-    match bad_place(Letters::Lower, digits) {
-        Some(place) => Some(3 + place),
-        None => None,
-    }
+    let place = bad_place(Letters::Lower, digits)?;
+    Some(3 + place)
 }
 
 // A command that stands alone.
@@ -41,6 +39,7 @@ fn with_hex(command: Command, rest: &[u8]) -> Result<Command, Fault>
     if *blank != b' ' {
         return Err(Fault::Byte);
     }
+    // `map_or` was tried, and the proof did not close.
     match bad_column(digits) {
         Some(column) => Err(Fault::Hex { column }),
         None => Ok(command),

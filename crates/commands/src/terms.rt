@@ -5,7 +5,7 @@ ghost use Rattle.commands.specs.Refusals.{told};
 use refusals::{Layer, Refusal};
 
 // A command. The string of the four string commands stands in the line itself.
-#[derive(Clone, Copy)]
+#[derive(Clone, Copy, Debug, PartialEq, Eq)]
 pub enum Command {
     Zero,
     Absorb,
@@ -16,7 +16,7 @@ pub enum Command {
     Squeeze(u8),
 }
 
-#[derive(Clone, Copy)]
+#[derive(Clone, Copy, Debug, PartialEq, Eq)]
 pub enum Fault {
     // no letter, or an unknown one
     Letter,
@@ -30,12 +30,12 @@ pub enum Fault {
     Length,
 }
 
-impl Fault {
-    // The refusal's number, layer and column.
-    pub fn refusal(self) -> Refusal
-        ensures { result ≡ told self }
-    {
-        let (number, place) = match self {
+// The refusal's number, layer and column.
+impl From<Fault> for Refusal {
+    ghost from_gives = { λ fault r. r ≡ told fault };
+
+    fn from(fault: Fault) -> Refusal {
+        let (number, place) = match fault {
             Fault::Letter => (9, 1),
             Fault::Byte => (9, 2),
             Fault::Hex { column } => (10, column),

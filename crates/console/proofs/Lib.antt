@@ -1,5 +1,3 @@
-mod LineLaws
-mod BufferLaws
-mod Bounds
+mod ReplyLaws
 mod RunLaws
-mod WritingLaws
+mod StringLaws

@@ -3,12 +3,12 @@ use Rattle.std.proofs.Common.{◌≡◌, ℕ, zero, suc, ◌+◌, ◌-◌, ◌<�
 use Rattle.std.proofs.lemmas.List.{append-nil, length-take, take_all}
 use Rattle.std.proofs.lemmas.Bool.{cases_lt, cases_Bool, lt-ltb, leb-true, leb-false, ne_eqb}
 use Rattle.duplex.specs.State.{zeros}
-use Rattle.console.specs.declared.terms.Fault.TheVariants.{Length}
-use Rattle.console.specs.Buffers.{kept}
-use Rattle.console.specs.Lines.{parsed, short_line, string_of}
+use Rattle.commands.specs.declared.terms.Fault.TheVariants.{Length}
+use Rattle.buffer.specs.Buffers.{kept}
+use Rattle.commands.specs.Lines.{parsed, short_line, string_of}
 use Rattle.console.specs.Replies.{bits_by, text_by, line_feed, line_bits, printed}
 use Rattle.console.specs.Runs.{lines_of, replies, transcript, Standing, stands, to_come, ended, reply, after_byte, byte_reply, end_reply, bytes_of, most_lines}
-use Rattle.console.proofs.BufferLaws.{take_front}
+use Rattle.buffer.proofs.BufferLaws.{take_front}
 
 parsed_long : (l : List ℕ) → 130 < length l → parsed l ≡ Err Length
 parsed_long l h = ap (λ t. cond t (Err Length) (short_line l)) (lt-ltb 130 (length l) h)

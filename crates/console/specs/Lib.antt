@@ -1,7 +1,3 @@
-pub mod Refusals
-pub mod Lines
-pub mod Buffers
 pub mod Replies
 pub mod Runs
-pub mod Writing
 pub mod Example

@@ -3,12 +3,12 @@ use Rattle.std.specs.Prelude.{ℕ, List, [], ◌∷◌, ◌++◌, Ok, Err, codes
 use Rattle.refusals.specs.declared.Refusal.{Refusal}
 use Rattle.duplex.specs.State.{zeros}
 use Rattle.duplex.specs.Strings.{absorbed, absorbed_unkeyed, enciphered, deciphered, blanked, squeezed, drained}
-use Rattle.console.specs.declared.terms.Command.{Command}
-use Rattle.console.specs.declared.terms.Command.TheVariants.{Zero, Absorb, AbsorbUnkeyed, Encrypt, Decrypt, Blank, Squeeze}
-use Rattle.console.specs.declared.terms.Fault.{Fault}
-use Rattle.console.specs.Buffers.{hex}
-use Rattle.console.specs.Lines.{parsed, string_of}
-use Rattle.console.specs.Refusals.{told}
+use Rattle.commands.specs.declared.terms.Command.{Command}
+use Rattle.commands.specs.declared.terms.Command.TheVariants.{Zero, Absorb, AbsorbUnkeyed, Encrypt, Decrypt, Blank, Squeeze}
+use Rattle.commands.specs.declared.terms.Fault.{Fault}
+use Rattle.digits.specs.Pairs.{hex}
+use Rattle.commands.specs.Lines.{parsed, string_of}
+use Rattle.commands.specs.Refusals.{told}
 
 -- the bits after a command with a string
 abbrev pub after : List ℕ → Command → List ℕ → List ℕ

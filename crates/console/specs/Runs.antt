@@ -1,7 +1,8 @@
 -- A whole run of the bench: what it prints for an input, and where it stands between two bytes of it.
 use Rattle.std.specs.Prelude.{ℕ, ◌+◌, ◌-◌, cond, List, [], ◌∷◌, ◌++◌, length, take, Some, None, Option, ◌==◌, nat_le}
 use Rattle.duplex.specs.State.{zeros}
-use Rattle.console.specs.Buffers.{kept}
+use Rattle.buffer.specs.Buffers.{held, kept}
+use Rattle.console.specs.declared.run.Console.{Console}
 use Rattle.console.specs.Replies.{line_feed, line_bits, printed}
 
 -- the lines of an input, the first of which has begun already: line feeds part them, and bytes after the last line feed are a line too, unless there are none
@@ -30,6 +31,10 @@ pub record Standing : Type 0 where
 
 abbrev pub stands : List ℕ → List ℕ → ℕ → Standing
 stands s begun n = record { bits = s; begun = begun; lines = n }
+
+-- where a console stands, by the bits of its engine
+abbrev pub standing : {E : Type 0} → (E → List ℕ) → Console E → Standing
+standing bits c = stands (bits c.duplex.engine) (held c.line) c.lines
 
 -- what is printed for the rest of an input
 unfoldable pub to_come : Standing → List ℕ → List ℕ

@@ -1,38 +1,17 @@
 // Carrying out a line.
-ghost use Rattle.std.specs.Prelude.{◌≡◌, ◌<◌, ◌≤◌, [], ◌∷◌, ◌++◌, length, take, codes};
-ghost use Rattle.duplex.specs.Strings.{squeezed, drained};
-ghost use Rattle.console.specs.Buffers.{held, kept, hex};
-ghost use Rattle.console.specs.Lines.{digit_value, string_of, Within};
+ghost use Rattle.std.specs.Prelude.{◌≡◌, ◌≤◌, [], ◌∷◌, ◌++◌, length, codes};
+ghost use Rattle.digits.specs.Pairs.{hex};
+ghost use Rattle.buffer.specs.Buffers.{held};
+ghost use Rattle.commands.specs.Lines.{Within};
+ghost use Rattle.commands.specs.Refusals.{told};
 ghost use Rattle.console.specs.Replies.{after, shown, refused, line_bits, printed, line_feed};
-ghost use Rattle.console.specs.Refusals.{told};
 
-use crate::buffer::Buffer;
-use crate::reading::{hex_value, parse};
-use crate::terms::{Command, Fault};
+use buffer::Buffer;
+use commands::{Command, Fault, parse};
+use digits::{Letters, decode_by};
 use duplex::Engine;
+use refusals::Refusal;
 use strings::Duplex;
-
-// The value of a hex digit, and 0 of any other byte.
-fn digit(c: u8) -> u8
-    ensures value { result ≡ digit_value c }
-    ensures small { result < 16 }
-{
-    hex_value(c).unwrap_or(0)
-}
-
-// The bytes that the hex digits of a line write, from its third byte on, and how many they are.
-fn decode(line: &[u8]) -> ([u8; 64], usize)
-    requires { length line.now ≤ 130 }
-    ensures text { take result.1 result.0 ≡ string_of line.now }
-    ensures fits { result.1 ≤ 64 }
-{
-    let mut text = [0; 64];
-    let n = line.len().saturating_sub(2) / 2;
-    for i in 0..n {
-        text[i] = 16 * digit(line[2 + 2 * i]) + digit(line[3 + 2 * i]);
-    }
-    (text, n)
-}
 
 // The line that answers a command with nothing to show.
 fn ok_line() -> Buffer
@@ -58,7 +37,7 @@ fn hex_line(bytes: &[u8]) -> Buffer
 fn refusal_line(number: usize, fault: Fault) -> Buffer
     ensures { held result ≡ refused number (told fault) ++ line_feed ∷ [] }
 {
-    let refusal = fault.refusal();
+    let refusal = Refusal::from(fault);
     let mut reply = Buffer::new();
     reply.extend(b"? ");
     reply.extend_decimal(usize::from(refusal.number));
@@ -70,21 +49,11 @@ fn refusal_line(number: usize, fault: Fault) -> Buffer
     reply
 }
 
-// Squeezes as many bytes as `out` has, and shows them.
-fn squeeze_line<E: Engine>(duplex: &mut Duplex<E>, out: &mut [u8]) -> Buffer
-    requires { length out.old ≤ 64 }
-    ensures moved { E.Engine.bits duplex.new.engine ≡ drained (E.Engine.bits duplex.old.engine) (length out.old) }
-    ensures reply { held result ≡ hex (squeezed (E.Engine.bits duplex.old.engine) (length out.old)) ++ line_feed ∷ [] }
-{
-    duplex.squeeze(out);
-    hex_line(out)
-}
-
 // Carries out a command with its string.
 fn execute<E: Engine>(duplex: &mut Duplex<E>, command: Command, text: &mut [u8]) -> Buffer
     requires { (length text.old ≤ 64) × (Within command) }
-    ensures moved { E.Engine.bits duplex.new.engine ≡ after (E.Engine.bits duplex.old.engine) command text.old }
-    ensures reply { held result ≡ shown (E.Engine.bits duplex.old.engine) command text.old ++ line_feed ∷ [] }
+    ensures moved { E.bits duplex.new.engine ≡ after (E.bits duplex.old.engine) command text.old }
+    ensures reply { held result ≡ shown (E.bits duplex.old.engine) command text.old ++ line_feed ∷ [] }
 {
     match command {
         Command::Zero => {
@@ -113,20 +82,24 @@ fn execute<E: Engine>(duplex: &mut Duplex<E>, command: Command, text: &mut [u8])
         }
         Command::Squeeze(count) => {
             let mut out = [0; 64];
-            squeeze_line(duplex, &mut out[0..usize::from(count)])
+            let out = &mut out[..usize::from(count)];
+            duplex.squeeze(out);
+            hex_line(out)
         }
     }
 }
 
 // Carries out the line with this number, and gives the line to print. A refused line leaves the object alone.
 pub fn interpret<E: Engine>(duplex: &mut Duplex<E>, number: usize, line: &[u8]) -> Buffer
-    ensures moved { E.Engine.bits duplex.new.engine ≡ line_bits (E.Engine.bits duplex.old.engine) line.now }
-    ensures reply { held result ≡ printed (E.Engine.bits duplex.old.engine) number line.now }
+    ensures moved { E.bits duplex.new.engine ≡ line_bits (E.bits duplex.old.engine) line.now }
+    ensures reply { held result ≡ printed (E.bits duplex.old.engine) number line.now }
 {
     match parse(line) {
         Ok(command) => {
-            let (mut text, n) = decode(line);
-            execute(duplex, command, &mut text[0..n])
+            let digits = &line[line.len().min(2)..];
+            let mut text = [0; 64];
+            decode_by(Letters::Lower, digits, &mut text);
+            execute(duplex, command, &mut text[..digits.len() / 2])
         }
         Err(fault) => refusal_line(number, fault),
     }

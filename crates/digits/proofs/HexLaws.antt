@@ -1,35 +1,33 @@
 -- Laws of hex digits: the turns of the loops over them, and digits read back.
-use Rattle.std.proofs.Common.{◌≡◌, ℕ, suc, ◌+◌, ◌-◌, ◌*◌, ◌/◌, ◌%◌, ◌<◌, ◌≤◌, Bool, true, false, cond, ◌&&◌, eqb, leb, List, [], ◌∷◌, ◌++◌, length, get_or, take, drop, set, is_some, Some, None, Option, unwrap_or, sym, refl, ap, ◌∙◌, subst, ap₂, ⊎_elim, arith}
+use Rattle.std.proofs.Common.{not, ◌≡◌, ℕ, zero, suc, ◌+◌, ◌-◌, ◌*◌, ◌/◌, ◌%◌, ◌<◌, ◌≤◌, Bool, true, false, cond, ◌&&◌, eqb, leb, List, [], ◌∷◌, ◌++◌, length, get_or, take, drop, set, is_some, Some, None, Option, unwrap_or, sym, refl, ap, ◌∙◌, subst, ap₂, ⊎_elim, arith}
 use Rattle.std.specs.Option.{option_or}
-use Rattle.std.proofs.lemmas.List.{append_assoc, at_drop_more, at_drop_all, drop_more, drop_all, drop-set-lt, length-drop, take-append-drop, take_more_set}
+use Rattle.std.specs.List.{position, position_from}
+use Rattle.std.proofs.lemmas.Iterator.Adapters.{position_from-zero}
+use Rattle.std.proofs.lemmas.List.{append_assoc, get_or-take, get_or-drop, drop_more, drop_all, drop-set-lt, length-drop, take-append-drop, take_more_set}
 use Rattle.std.proofs.lemmas.Bool.{and_from, and_right, cases_lt, cond_both, le-leb, lt-leb, lt-ltb, le-ltb, ne_eqb}
+use Rattle.std.specs.Simd.{first_chunks}
 use Rattle.digits.specs.declared.single.Letters.{Letters}
 use Rattle.digits.specs.declared.single.Letters.TheVariants.{Lower, Either}
-use Rattle.digits.specs.Digits.{low_value, capital_value, value_of, digit_value, bad_digit, bad_hex, hex_digit}
-use Rattle.digits.specs.Pairs.{unhex, hex, laid}
+use Rattle.digits.specs.Digits.{low_value, capital_value, value_of, value_or_zero, bad_digit, bad_hex, hex_digit}
+use Rattle.digits.specs.Pairs.{unhex_by, hex, laid}
 
--- the byte at i decides, or those after it
-bad_at : (letters : Letters) (xs : List ℕ) (i : ℕ) (good : Bool) → i < length xs → is_some (value_of letters (get_or xs i 0)) ≡ good
-    → bad_digit letters i (drop i xs) ≡ cond good (bad_digit letters (i + 1) (drop (i + 1) xs)) (Some i)
-bad_at letters xs i good h e =
-    at_drop_more (bad_digit letters i) xs i 0 h ∙ ap (λ t. cond t (bad_digit letters (i + 1) (drop (i + 1) xs)) (Some i)) e
+abbrev pub no_digit : Letters → ℕ → Bool
+no_digit letters c = not (is_some (value_of letters c))
 
 abbrev at_end : List ℕ → Option ℕ
 at_end xs = cond (eqb (length xs % 2) 1) (Some (length xs)) None
 
-pub bad_more : (letters : Letters) (xs : List ℕ) (i : ℕ) → i < length xs → is_some (value_of letters (get_or xs i 0)) ≡ true
-    → bad_digit letters i (drop i xs) ≡ bad_digit letters 0 xs → bad_digit letters (i + 1) (drop (i + 1) xs) ≡ bad_digit letters 0 xs
-bad_more letters xs i h good so = sym (bad_at letters xs i true h good) ∙ so
+swapped : (t : Bool) (a b : Option ℕ) → cond (not t) a b ≡ cond t b a
+swapped true a b = refl
+swapped false a b = refl
 
-pub bad_here : (letters : Letters) (xs : List ℕ) (i : ℕ) → i < length xs → is_some (value_of letters (get_or xs i 0)) ≡ false
-    → bad_digit letters i (drop i xs) ≡ bad_digit letters 0 xs → Some i ≡ bad_hex letters xs
-bad_here letters xs i h bad so = ap (λ o. option_or o (at_end xs)) (sym (bad_at letters xs i false h bad) ∙ so)
+-- the first bad digit is the first byte that is none
+bad_from : (letters : Letters) (place : ℕ) (xs : List ℕ) → position_from (no_digit letters) place xs ≡ bad_digit letters place xs
+bad_from letters place [] = refl
+bad_from letters place (x ∷ xs) = swapped (is_some (value_of letters x)) (Some place) (position_from (no_digit letters) (place + 1) xs) ∙ ap (λ o. cond (is_some (value_of letters x)) o (Some place)) (bad_from letters (place + 1) xs)
 
--- all are digits, and only their count is left to look at
-pub bad_none : (letters : Letters) (xs : List ℕ) (i : ℕ) (t : Bool) → length xs ≤ i → bad_digit letters i (drop i xs) ≡ bad_digit letters 0 xs → eqb (length xs % 2) 1 ≡ t
-    → cond t (Some (length xs)) None ≡ bad_hex letters xs
-bad_none letters xs i t h so e =
-    ap (λ t. cond t (Some (length xs)) None) (sym e) ∙ ap (λ o. option_or o (at_end xs)) (sym (at_drop_all (bad_digit letters i) xs i h) ∙ so)
+pub bad_first : (letters : Letters) (xs : List ℕ) (o odd : Option ℕ) → o ≡ position (no_digit letters) xs → odd ≡ at_end xs → option_or o odd ≡ bad_hex letters xs
+bad_first letters xs o odd e e' = ap₂ option_or (e ∙ position_from-zero (no_digit letters) xs ∙ bad_from letters 0 xs) e'
 
 -- a bad place is at most past the end
 abbrev Within : ℕ → Option ℕ → Type 0
@@ -50,39 +48,53 @@ bad_within letters xs place e =
     subst (Within (length xs)) (sym e)
     (within_or (length xs) (bad_digit letters 0 xs) (at_end xs) (within_digits letters 0 (length xs) xs (omega arith)) (cond_both (eqb (length xs % 2) 1) (Some (length xs)) None (Within (length xs)) (λ _. omega arith) (λ _. tt)))
 
+-- a digit of the pair at i
+chunk_at : (xs : List ℕ) (k i j : ℕ) (d : List ℕ) → i < k → j < 2 → get_or (get_or (first_chunks 2 k xs) i d) j 0 ≡ get_or xs (2 * i + j) 0
+chunk_at xs zero i j d h l = absurd (omega arith)
+chunk_at xs (suc k) zero j d h l = get_or-take 2 xs j 0 l ∙ ap (λ n. get_or xs n 0) (omega arith)
+chunk_at xs (suc k) (suc i) j d h l =
+    let next : 2 + (2 * i + j) ≡ 2 * suc i + j = omega arith in
+    chunk_at (drop 2 xs) k i j d (omega arith) l ∙ get_or-drop 2 xs (2 * i + j) 0 ∙ ap (λ n. get_or xs n 0) next
+
+pub digit_at : (letters : Letters) (xs : List ℕ) (ps : List (List ℕ)) (n i j place : ℕ) → ps ≡ first_chunks 2 (length xs / 2) xs → place ≡ 2 * i + j → i < n → i < length xs / 2 → j < 2
+    → value_or_zero letters (get_or (get_or (take n ps) i []) j 0) ≡ value_or_zero letters (get_or xs place 0)
+digit_at letters xs ps n i j place e at fits whole l =
+    ap (λ p. value_or_zero letters (get_or p j 0)) (get_or-take n ps i [] fits ∙ ap (λ ps. get_or ps i []) e)
+    ∙ ap (value_or_zero letters) (chunk_at xs (length xs / 2) i j [] whole l ∙ ap (λ n. get_or xs n 0) (sym at))
+
 -- decoding: the pair of digits at 2 i writes the byte at i
-pub laid_more : (xs out : List ℕ) (i v : ℕ) → 2 * i + 1 < length xs → i < length out → v ≡ 16 * digit_value (get_or xs (2 * i) 0) + digit_value (get_or xs (2 * i + 1) 0)
-    → take (i + 1) (set out i v) ++ laid (unhex (drop (2 * (i + 1)) xs)) (drop (i + 1) (set out i v)) ≡ take i out ++ laid (unhex (drop (2 * i) xs)) (drop i out)
-laid_more xs out i v h l e =
+pub laid_more : (letters : Letters) (xs out : List ℕ) (i v : ℕ) → 2 * i + 1 < length xs → i < length out → v ≡ 16 * value_or_zero letters (get_or xs (2 * i) 0) + value_or_zero letters (get_or xs (2 * i + 1) 0)
+    → take (i + 1) (set out i v) ++ laid (unhex_by letters (drop (2 * (i + 1)) xs)) (drop (i + 1) (set out i v)) ≡ take i out ++ laid (unhex_by letters (drop (2 * i) xs)) (drop i out)
+laid_more letters xs out i v h l e =
     let next : 2 * (i + 1) ≡ 2 * i + 1 + 1 = omega arith in
-    let rest = unhex (drop (2 * i + 1 + 1) xs) in
+    let rest = unhex_by letters (drop (2 * i + 1 + 1) xs) in
     let old = drop (i + 1) out in
     let pair = drop_more xs (2 * i) 0 (omega arith) ∙ ap (λ r. get_or xs (2 * i) 0 ∷ r) (drop_more xs (2 * i + 1) 0 h) in
-    ap₂ (λ f n. f ++ laid (unhex (drop n xs)) (drop (i + 1) (set out i v))) (take_more_set out i v l) next
+    ap₂ (λ f n. f ++ laid (unhex_by letters (drop n xs)) (drop (i + 1) (set out i v))) (take_more_set out i v l) next
     ∙ ap (λ o. (take i out ++ v ∷ []) ++ laid rest o) (drop-set-lt (i + 1) out i v (omega arith))
     ∙ append_assoc (take i out) (v ∷ []) (laid rest old)
     ∙ ap (λ b. take i out ++ (b ∷ laid rest old)) e
-    ∙ ap₂ (λ r o. take i out ++ laid (unhex r) o) (sym pair) (sym (drop_more out i 0 l))
+    ∙ ap₂ (λ r o. take i out ++ laid (unhex_by letters r) o) (sym pair) (sym (drop_more out i 0 l))
 
-unhex_short : (xs : List ℕ) → length xs < 2 → unhex xs ≡ []
-unhex_short [] h = refl
-unhex_short (a ∷ []) h = refl
-unhex_short (a ∷ b ∷ xs) h = absurd (omega arith)
+unhex_short : (letters : Letters) (xs : List ℕ) → length xs < 2 → unhex_by letters xs ≡ []
+unhex_short letters [] h = refl
+unhex_short letters (a ∷ []) h = refl
+unhex_short letters (a ∷ b ∷ xs) h = absurd (omega arith)
 
 laid_none : (bs : List ℕ) → laid bs [] ≡ []
 laid_none [] = refl
 laid_none (b ∷ bs) = refl
 
 -- no room is left, or no pair
-pub laid_full : (xs out : List ℕ) (i : ℕ) → length out ≤ i → take i out ++ laid (unhex (drop (2 * i) xs)) (drop i out) ≡ out
-laid_full xs out i full =
-    ap (λ o. take i out ++ laid (unhex (drop (2 * i) xs)) o) (drop_all i out full)
-    ∙ ap (λ o. take i out ++ o) (laid_none (unhex (drop (2 * i) xs)) ∙ sym (drop_all i out full))
+pub laid_full : (letters : Letters) (xs out : List ℕ) (i : ℕ) → length out ≤ i → take i out ++ laid (unhex_by letters (drop (2 * i) xs)) (drop i out) ≡ out
+laid_full letters xs out i full =
+    ap (λ o. take i out ++ laid (unhex_by letters (drop (2 * i) xs)) o) (drop_all i out full)
+    ∙ ap (λ o. take i out ++ o) (laid_none (unhex_by letters (drop (2 * i) xs)) ∙ sym (drop_all i out full))
     ∙ take-append-drop i out
 
-pub laid_out : (xs out : List ℕ) (i : ℕ) → length xs < 2 * i + 2 → take i out ++ laid (unhex (drop (2 * i) xs)) (drop i out) ≡ out
-laid_out xs out i h =
-    ap (λ b. take i out ++ laid b (drop i out)) (unhex_short (drop (2 * i) xs) (simp length-drop (omega arith))) ∙ take-append-drop i out
+pub laid_out : (letters : Letters) (xs out : List ℕ) (i : ℕ) → length xs < 2 * i + 2 → take i out ++ laid (unhex_by letters (drop (2 * i) xs)) (drop i out) ≡ out
+laid_out letters xs out i h =
+    ap (λ b. take i out ++ laid b (drop i out)) (unhex_short letters (drop (2 * i) xs) (simp length-drop (omega arith))) ∙ take-append-drop i out
 
 -- bytes that fit are at the front
 pub laid_front : (bs old : List ℕ) → length bs ≤ length old → take (length bs) (laid bs old) ≡ bs
@@ -97,10 +109,10 @@ laid_whole [] (o ∷ old) h = absurd (omega arith)
 laid_whole (b ∷ bs) [] h = absurd (omega arith)
 laid_whole (b ∷ bs) (o ∷ old) h = ap (λ l. b ∷ l) (laid_whole bs old (omega arith))
 
-pub length-unhex : (xs : List ℕ) → length (unhex xs) ≡ length xs / 2
-length-unhex [] = refl
-length-unhex (a ∷ []) = refl
-length-unhex (a ∷ b ∷ xs) = let more = length-unhex xs in omega arith
+pub length-unhex : (letters : Letters) (xs : List ℕ) → length (unhex_by letters xs) ≡ length xs / 2
+length-unhex letters [] = refl
+length-unhex letters (a ∷ []) = refl
+length-unhex letters (a ∷ b ∷ xs) = let more = length-unhex letters xs in omega arith
 
 pub length-hex : (bs : List ℕ) → length (hex bs) ≡ 2 * length bs
 length-hex [] = refl
@@ -139,17 +151,17 @@ module _ (b : ℕ) (byte : b < 256) where
   low : (letters : Letters) → value_of letters (hex_digit (b % 16)) ≡ Some (b % 16)
   low letters = value_back letters (b % 16) (omega arith)
 
-  pair_back : 16 * digit_value (hex_digit (b / 16)) + digit_value (hex_digit (b % 16)) ≡ b
-  pair_back = ap₂ (λ x y. 16 * unwrap_or x 0 + unwrap_or y 0) (high Either) (low Either) ∙ omega arith
+  pair_back : (letters : Letters) → 16 * value_or_zero letters (hex_digit (b / 16)) + value_or_zero letters (hex_digit (b % 16)) ≡ b
+  pair_back letters = ap₂ (λ x y. 16 * unwrap_or x 0 + unwrap_or y 0) (high letters) (low letters) ∙ omega arith
 
   pair_good : (letters : Letters) (place : ℕ) (rest : List ℕ)
       → bad_digit letters place (hex_digit (b / 16) ∷ hex_digit (b % 16) ∷ rest) ≡ bad_digit letters (place + 1 + 1) rest
   pair_good letters place rest =
       ap₂ (λ x y. cond (is_some x) (cond (is_some y) (bad_digit letters (place + 1 + 1) rest) (Some (place + 1))) (Some place)) (high letters) (low letters)
 
-pub unhex-hex : (t : List ℕ) → ((i : ℕ) → get_or t i 0 < 256) → unhex (hex t) ≡ t
-unhex-hex [] h = refl
-unhex-hex (b ∷ t) h = ap₂ (λ x xs. x ∷ xs) (pair_back b (h 0)) (unhex-hex t (λ i. h (suc i)))
+pub unhex-hex : (letters : Letters) (t : List ℕ) → ((i : ℕ) → get_or t i 0 < 256) → unhex_by letters (hex t) ≡ t
+unhex-hex letters [] h = refl
+unhex-hex letters (b ∷ t) h = ap₂ (λ x xs. x ∷ xs) (pair_back b (h 0) letters) (unhex-hex letters t (λ i. h (suc i)))
 
 good_digits : (letters : Letters) (place : ℕ) (t : List ℕ) → ((i : ℕ) → get_or t i 0 < 256) → bad_digit letters place (hex t) ≡ None
 good_digits letters place [] h = refl

@@ -1,1 +1,2 @@
 pub mod HexLaws
+mod TextLaws

@@ -28,9 +28,13 @@ abbrev pub value_of : Letters → ℕ → Option ℕ
 value_of Lower c = low_value c
 value_of Either c = option_or (low_value c) (capital_value c)
 
--- the same with 0 for what is no digit of either case
+-- the same with 0 for what is no digit
+abbrev pub value_or_zero : Letters → ℕ → ℕ
+value_or_zero letters c = unwrap_or (value_of letters c) 0
+
+-- the same where the letters of either case are digits
 abbrev pub digit_value : ℕ → ℕ
-digit_value c = unwrap_or (value_of Either c) 0
+digit_value c = value_or_zero Either c
 
 -- the place of the first byte that is no digit; the bytes begin at the given one
 abbrev pub bad_digit : Letters → ℕ → List ℕ → Option ℕ
@@ -44,3 +48,7 @@ bad_hex letters digits = option_or (bad_digit letters 0 digits) (cond (length di
 -- the lower-case digit of a number below 16
 abbrev pub hex_digit : ℕ → ℕ
 hex_digit n = cond (nat_lt n 10) (char_of "0" + n) (char_of "a" + (n - 10))
+
+-- the same in capitals
+abbrev pub capital_digit : ℕ → ℕ
+capital_digit n = cond (nat_lt n 10) (char_of "0" + n) (char_of "A" + (n - 10))

@@ -1,27 +1,43 @@
 // Pairs of digits, and the bytes that they write.
 ghost use Rattle.std.specs.Prelude.{◌≡◌, IfOk};
-ghost use Rattle.digits.specs.Pairs.{unhex, laid, DigitsReadBack};
+ghost use Rattle.digits.specs.Pairs.{unhex_by, unhex, laid, DigitsReadBack};
 
-use crate::single::value_or_zero;
+use crate::single::{Letters, value_by};
 use std::alloc::{AllocError, Global};
 
 // Writes the bytes of the digits over the front of a buffer, as many as it has room for. A byte that is no digit counts as 0, and a last digit without a second one as nothing.
-pub fn decode(digits: &[u8], out: &mut [u8])
-    ensures { out.new ≡ laid (unhex digits.now) out.old }
+pub fn decode_by(letters: Letters, digits: &[u8], out: &mut [u8])
+    ensures { out.new ≡ laid (unhex_by letters digits.now) out.old }
 {
-    let n = (digits.len() / 2).min(out.len());
-    for i in 0..n {
-        out[i] = 16 * value_or_zero(digits[2 * i]) + value_or_zero(digits[2 * i + 1]);
+    let (pairs, _) = digits.as_chunks::<2>();
+    let n = pairs.len().min(out.len());
+    // Of what an `iter_mut` that is zipped leaves, nothing is known.
+    for (i, [high, low]) in pairs[..n].iter().enumerate() {
+        out[i] = 16 * value_by(letters, *high) + value_by(letters, *low);
     }
 }
 
+// The same where the letters of either case are digits. It is public, and stays beside the other.
+pub fn decode(digits: &[u8], out: &mut [u8])
+    ensures { out.new ≡ laid (unhex digits.now) out.old }
+{
+    decode_by(Letters::Either, digits, out);
+}
+
 // All bytes of the digits.
+pub fn bytes_by(letters: Letters, heap: Global, digits: &[u8]) -> Result<Vec<u8>, AllocError>
+    ensures { IfOk result (λ v. v.items ≡ unhex_by letters digits.now) }
+{
+    let mut bytes = vec![in heap; 0; digits.len() / 2]?;
+    decode_by(letters, digits, bytes.as_mut_slice());
+    Ok(bytes)
+}
+
+// The same where the letters of either case are digits. It is public, and stays beside the other.
 pub fn bytes(heap: Global, digits: &[u8]) -> Result<Vec<u8>, AllocError>
     ensures { IfOk result (λ v. v.items ≡ unhex digits.now) }
 {
-    let mut bytes = vec![in heap; 0; digits.len() / 2]?;
-    decode(digits, bytes.as_mut_slice());
-    Ok(bytes)
+    bytes_by(Letters::Either, heap, digits)
 }
 
 // The digits of bytes are sound, and write those bytes.

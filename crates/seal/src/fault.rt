@@ -1,14 +1,14 @@
 // Why the program refuses.
 ghost use Rattle.std.specs.Prelude.{◌≡◌};
-ghost use Rattle.seal.specs.declared.fault.Fault.TheVariants.{Session as Inner, Memory};
+ghost use Rattle.seal.specs.declared.fault.Fault.TheVariants.{Sealed as Inner, Memory};
 
-use session::SessionFault;
+use sealed::{HexFault, SealedFault};
 use std::alloc::AllocError;
 use std::{fmt, io};
 
-// The words of the command line, and what is printed.
+// What a fault is about: a word of the command line, or what is printed.
 #[derive(Clone, Copy)]
-pub enum Word {
+pub enum Subject {
     Key,
     Nonce,
     Ad,
@@ -17,37 +17,16 @@ pub enum Word {
     Print,
 }
 
-impl fmt::Display for Word {
+impl fmt::Display for Subject {
     fn fmt<W: fmt::Write>(&self, f: &mut fmt::Formatter<W>) -> fmt::Result {
         f.write_str(match *self {
-            Word::Key => "KEY",
-            Word::Nonce => "NONCE",
-            Word::Ad => "AD",
-            Word::In => "IN",
-            Word::Out => "OUT",
-            Word::Print => "standard output",
+            Subject::Key => "KEY",
+            Subject::Nonce => "NONCE",
+            Subject::Ad => "AD",
+            Subject::In => "IN",
+            Subject::Out => "OUT",
+            Subject::Print => "standard output",
         })
-    }
-}
-
-// What spoils a word of hex digits.
-#[derive(Clone, Copy)]
-pub enum HexFault {
-    // a byte that is no digit
-    Digit { column: usize },
-    // an odd count of digits; the column past the end
-    Odd { column: usize },
-    // other than 32 digits
-    Count { digits: usize },
-}
-
-impl fmt::Display for HexFault {
-    fn fmt<W: fmt::Write>(&self, f: &mut fmt::Formatter<W>) -> fmt::Result {
-        match self {
-            HexFault::Digit { column } => write!(f, "column {column} is no hex digit"),
-            HexFault::Odd { column } => write!(f, "a digit is missing at column {column}"),
-            HexFault::Count { digits } => write!(f, "{digits} hex digits where 32 are wanted"),
-        }
     }
 }
 
@@ -55,19 +34,17 @@ impl fmt::Display for HexFault {
 pub enum Fault {
     // not the words that --help lists
     Usage,
-    Hex { word: Word, fault: HexFault },
-    // a file that cannot hold a tag
-    Tagless { length: usize },
-    Session(SessionFault),
-    File { word: Word, error: io::Error },
+    Hex { subject: Subject, fault: HexFault },
+    Sealed(SealedFault),
+    File { subject: Subject, error: io::Error },
     Memory,
 }
 
-impl From<SessionFault> for Fault {
+impl From<SealedFault> for Fault {
     ghost from_gives = { λ inner r. r ≡ Inner inner };
 
-    fn from(inner: SessionFault) -> Fault {
-        Fault::Session(inner)
+    fn from(inner: SealedFault) -> Fault {
+        Fault::Sealed(inner)
     }
 }
 
@@ -83,21 +60,14 @@ impl fmt::Display for Fault {
     fn fmt<W: fmt::Write>(&self, f: &mut fmt::Formatter<W>) -> fmt::Result {
         match self {
             Fault::Usage => f.write_str("wrong arguments; try seal --help"),
-            Fault::Hex { word, fault } => write!(f, "{word}: {fault}"),
-            Fault::Tagless { length } => {
-                write!(f, "IN: {length} bytes, fewer than the 16 of a tag")
+            Fault::Hex { subject, fault } => write!(f, "{subject}: {fault}"),
+            Fault::Sealed(fault) => {
+                if let SealedFault::Tagless { length: _ } = *fault {
+                    write!(f, "{}: ", Subject::In)?;
+                }
+                write!(f, "{fault}")
             }
-            Fault::Session(fault) => {
-                let refusal = fault.refusal();
-                let why = match *fault {
-                    SessionFault::Short { room: _ } => "the buffer is too short",
-                    SessionFault::Tag { length: _ } => "the tag differs",
-                };
-                let number = refusal.number;
-                let place = refusal.place;
-                write!(f, "session refusal {number} at {place}: {why}")
-            }
-            Fault::File { word, error } => write!(f, "{word}: {error}"),
+            Fault::File { subject, error } => write!(f, "{subject}: {error}"),
             Fault::Memory => f.write_str("out of memory"),
         }
     }

@@ -2,15 +2,17 @@
 #![tactic(auto)]
 
 mod fault;
-mod hex;
-mod sealed;
+mod words;
 
-use fault::{Fault, Word};
-use hex::{bytes, sixteen};
-use sealed::Secret;
+use cli::report;
+use fault::{Fault, Subject};
+use sealed::{Secret, open, seal};
 use session::{Key, Nonce};
+use std::alloc::Global;
 use std::process::ExitCode;
-use std::{env, fs};
+use std::str::FromStr;
+use std::{env, fs, io};
+use words::{bytes, sixteen};
 
 const HELP: &str = "usage: seal seal KEY NONCE AD IN OUT
        seal open KEY NONCE AD IN OUT
@@ -30,12 +32,33 @@ enum Task {
     Open,
 }
 
-fn task_of(word: &str) -> Result<Task, Fault> {
-    match word {
-        "seal" => Ok(Task::Seal),
-        "open" => Ok(Task::Open),
-        _ => Err(Fault::Usage),
+impl FromStr for Task {
+    type Err = Fault;
+
+    fn from_str(word: &str) -> Result<Task, Fault> {
+        match word {
+            "seal" => Ok(Task::Seal),
+            "open" => Ok(Task::Open),
+            _ => Err(Fault::Usage),
+        }
     }
+}
+
+// What was done with a file, or why it was not.
+fn done<T: Drop>(subject: Subject, outcome: io::Result<T>) -> Result<T, Fault> {
+    outcome.map_err(|error| Fault::File { subject, error })
+}
+
+fn secret_of(heap: Global, key: &str, nonce: &str, ad: &str) -> Result<Secret, Fault> {
+    Ok(Secret {
+        key: Key {
+            bytes: sixteen(Subject::Key, key)?,
+        },
+        nonce: Nonce {
+            bytes: sixteen(Subject::Nonce, nonce)?,
+        },
+        ad: bytes(heap, Subject::Ad, ad)?,
+    })
 }
 
 // Carries out the command of these words.
@@ -44,46 +67,24 @@ fn carry_out(rt: &HostRuntime, words: &[String]) -> Result<(), Fault> {
         return Err(Fault::Usage);
     };
     let heap = rt.alloc();
-    let task = task_of(verb.as_str())?;
-    let key = sixteen(Word::Key, key.as_str())?;
-    let nonce = sixteen(Word::Nonce, nonce.as_str())?;
-    let secret = Secret {
-        key: Key { bytes: key },
-        nonce: Nonce { bytes: nonce },
-        ad: bytes(heap, Word::Ad, ad.as_str())?,
+    let task = verb.as_str().parse::<Task>()?;
+    let secret = secret_of(heap, key.as_str(), nonce.as_str(), ad.as_str())?;
+    let input = done(Subject::In, fs::read(rt, from.as_str()))?;
+    let (did, output) = match task {
+        Task::Seal => ("sealed", seal(heap, &secret, input.as_slice())?),
+        Task::Open => ("opened", open(heap, &secret, input.as_slice())?),
     };
-    let input = match fs::read(rt, from.as_str()) {
-        Ok(input) => input,
-        Err(error) => return Err(Fault::File {
-            word: Word::In,
-            error,
-        }),
-    };
-    let (done, output) = match task {
-        Task::Seal => ("sealed", sealed::seal(heap, &secret, input.as_slice())?),
-        Task::Open => ("opened", sealed::open(heap, &secret, input.as_slice())?),
-    };
-    if let Err(error) = fs::write(rt, to.as_str(), output.as_slice()) {
-        return Err(Fault::File {
-            word: Word::Out,
-            error,
-        });
-    }
+    done(Subject::Out, fs::write(rt, to.as_str(), output.as_slice()))?;
     let (given, made) = (input.len(), output.len());
-    match println!(rt; "{done} {from}, {given} bytes, into {to}, {made} bytes") {
-        Ok(()) => Ok(()),
-        Err(error) => Err(Fault::File {
-            word: Word::Print,
-            error,
-        }),
-    }
+    done(
+        Subject::Print,
+        println!(rt; "{did} {from}, {given} bytes, into {to}, {made} bytes"),
+    )
 }
 
 fn run(rt: &HostRuntime) -> Result<(), Fault> {
-    let words: Vec<String> = match env::args(rt) {
-        Ok(args) => args.skip(1).collect(rt.alloc())?,
-        Err(_) => return Err(Fault::Usage),
-    };
+    let args = env::args(rt).map_err(|_| Fault::Usage)?;
+    let words: Vec<String> = args.skip(1).collect(rt.alloc())?;
     if let [word] = words.as_slice() {
         if word.as_str() == "--help" {
             let _ = rt.println(HELP);
@@ -94,11 +95,5 @@ fn run(rt: &HostRuntime) -> Result<(), Fault> {
 }
 
 fn main(rt: HostRuntime) -> ExitCode {
-    match run(&rt) {
-        Ok(()) => ExitCode::SUCCESS,
-        Err(fault) => {
-            let _ = eprintln!(rt; "seal: {fault}");
-            ExitCode::FAILURE
-        }
-    }
+    report(&rt, "seal", run(&rt))
 }

@@ -22,6 +22,11 @@ hex_fault digits = fault_at (length digits) (bad_hex Either digits)
 abbrev pub key_fault : List ℕ → Option HexFault
 key_fault digits = option_or (hex_fault digits) (cond (length digits == 32) None (Some (Count (length digits))))
 
+-- nothing, or the fault
+abbrev pub unless : Option HexFault → Result (Unit {0}) HexFault
+unless None = Ok tt
+unless (Some fault) = Err fault
+
 abbrev pub by_fault : Option HexFault → List ℕ → Result (List ℕ) HexFault
 by_fault (Some fault) bytes = Err fault
 by_fault None bytes = Ok bytes

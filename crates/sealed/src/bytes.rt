@@ -31,21 +31,13 @@ pub fn seal(heap: Global, secret: &Secret, text: &[u8]) -> Result<Vec<u8>, Seale
 pub fn open(heap: Global, secret: &Secret, sealed: &[u8]) -> Result<Vec<u8>, SealedFault>
     ensures { MatchResult result (λ v. sealed.now ≡ sealed_bytes (begun secret.now.key.bytes secret.now.nonce.bytes) secret.now.ad.items v.items) (NotOpened (begun secret.now.key.bytes secret.now.nonce.bytes) secret.now.ad.items sealed.now) }
 {
-    if sealed.len() < 16 {
-        return Err(SealedFault::Tagless {
-            length: sealed.len(),
-        });
-    }
-    let n = sealed.len() - 16;
-    let mut tag = Tag { bytes: [0; 16] };
-    tag.bytes.copy_from_slice(&sealed[n..]);
+    let length = sealed.len();
+    let Some((ciphertext, tag)) = sealed.split_last_chunk::<16>() else {
+        return Err(SealedFault::Tagless { length });
+    };
+    let tag = Tag { bytes: *tag };
     let mut session = Session::<Plain>::begin(&secret.key, &secret.nonce);
-    let mut text = vec![in heap; 0; n]?;
-    session.open(
-        secret.ad.as_slice(),
-        &sealed[0..n],
-        &tag,
-        text.as_mut_slice(),
-    )?;
+    let mut text = vec![in heap; 0; ciphertext.len()]?;
+    session.open(secret.ad.as_slice(), ciphertext, &tag, text.as_mut_slice())?;
     Ok(text)
 }

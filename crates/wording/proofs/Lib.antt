@@ -1,2 +1,2 @@
-mod TermLaws
+mod KindLaws
 mod RunLaws

@@ -1,15 +1,27 @@
 -- The words of a script: hex digits and the names of the kinds.
-use Rattle.std.specs.Prelude.{◌≡◌, ℕ, ◌+◌, ◌*◌, ◌%◌, cond, ◌&&◌, List, [], ◌∷◌, length, is_some, Some, None, codes, Option, ◌==◌}
-use Rattle.std.specs.Option.{option_or}
+use Rattle.std.specs.Prelude.{◌≡◌, ℕ, ◌+◌, ◌*◌, cond, ◌&&◌, List, [], ◌∷◌, is_some, Some, None, codes, Option}
 use Rattle.std.specs.Str.{bytes_eq}
 use Rattle.link.specs.declared.kind.Kind.{Kind}
 use Rattle.link.specs.declared.kind.Kind.TheVariants.{PollValue, Alarm, Output, Clock, ZoneName, Heartbeat}
 use Rattle.link.specs.Kinds.{kind_byte}
-use Rattle.console.specs.Lines.{hex_value, digit_value, bad_digit}
+use Rattle.digits.specs.declared.single.Letters.TheVariants.{Lower}
+use Rattle.digits.specs.Digits.{value_of, value_or_zero, bad_hex as bad_by}
+use Rattle.digits.specs.Pairs.{unhex_by}
+
+-- the digits of a script have lower-case letters
+abbrev pub hex_value : ℕ → Option ℕ
+hex_value c = value_of Lower c
+
+abbrev pub digit_value : ℕ → ℕ
+digit_value c = value_or_zero Lower c
+
+-- the bytes that digits write
+abbrev pub unhex : List ℕ → List ℕ
+unhex digits = unhex_by Lower digits
 
 -- what spoils hex digits, by its place: the first byte that is none, or the end where their count is odd
 abbrev pub bad_hex : List ℕ → Option ℕ
-bad_hex digits = option_or (bad_digit 0 digits) (cond (length digits % 2 == 1) (Some (length digits)) None)
+bad_hex digits = bad_by Lower digits
 
 abbrev pub name_of : Kind → List ℕ
 name_of PollValue = codes "poll-value"
@@ -18,6 +30,9 @@ name_of Output = codes "output"
 name_of Clock = codes "clock"
 name_of ZoneName = codes "zone-name"
 name_of Heartbeat = codes "heartbeat"
+
+abbrev pub kinds : List Kind
+kinds = PollValue ∷ Alarm ∷ Output ∷ Clock ∷ ZoneName ∷ Heartbeat ∷ []
 
 -- a byte in two hex digits
 abbrev pub two_digits : List ℕ → Option ℕ

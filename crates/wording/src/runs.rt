@@ -1,8 +1,8 @@
 // Runs of bytes.
-ghost use Rattle.std.specs.Prelude.{◌≡◌, ◌≤◌, length};
+ghost use Rattle.std.specs.Prelude.{◌≡◌, ◌≤◌, length, position};
 ghost use Rattle.wording.specs.Runs.{blank, ends_run, run_length};
 
-// Where a run of bytes ends: at a byte, at a blank, or at what is no blank.
+// Where a run of bytes ends: at a byte, at a blank, or at what is no blank. No closure, since one as a parameter of a public function would need a `requires` that it may be called, and no public function here asks anything of its caller.
 #[derive(Clone, Copy)]
 pub enum Stop {
     Byte(u8),
@@ -26,15 +26,17 @@ fn stops(stop: Stop, c: u8) -> bool
     }
 }
 
+// The place of the first byte that ends a run.
+fn first_stop(text: &[u8], stop: Stop) -> Option<usize>
+    ensures { result ≡ position (ends_run stop) text.now }
+{
+    text.iter().position(|c| stops(stop, *c))
+}
+
 // The length of the run at the front of a text.
 pub fn before(text: &[u8], stop: Stop) -> usize
     ensures value { result ≡ run_length stop text.now }
     ensures within { result ≤ length text.now }
 {
-    for (i, c) in text.iter().enumerate() {
-        if stops(stop, *c) {
-            return i;
-        }
-    }
-    text.len()
+    first_stop(text, stop).unwrap_or(text.len())
 }

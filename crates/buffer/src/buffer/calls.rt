@@ -1,4 +1,4 @@
-// Writing into a buffer. What does not fit is dropped.
+// Writing into a buffer. What does not fit is dropped: `write!` would end at the first piece without room, and nothing is then known of what it wrote.
 ghost use Rattle.std.specs.Prelude.{◌≡◌, [], ◌∷◌, length, decimal, ◌==◌};
 ghost use Rattle.digits.specs.Pairs.{hex};
 ghost use Rattle.buffer.specs.Buffers.{held, kept};
@@ -49,7 +49,7 @@ impl Buffer {
         }
     }
 
-    // Bytes as hex.
+    // Bytes as hex. Here and below no `write!`: after an error std's clauses say little of what it has written, and what fits is kept.
     pub fn extend_hex(&mut self, bytes: &[u8])
         ensures { held self.new ≡ kept (held self.old) (hex bytes.now) }
     {

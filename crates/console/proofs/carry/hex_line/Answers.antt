@@ -1,7 +1,8 @@
 -- 64 bytes as hex and a line feed fit.
 use Rattle.std.proofs.Common.{arith}
 use Rattle.std.proofs.lemmas.List.{length-append}
-use Rattle.console.proofs.BufferLaws.{kept_then, kept_new, length-hex}
+use Rattle.buffer.proofs.BufferLaws.{kept_then, kept_new}
+use Rattle.digits.proofs.HexLaws.{length-hex}
 use Rattle.console.proofs.carry.hex_line.Goals as goal
 
 pub returns : goal.returns

@@ -1,6 +1,6 @@
 -- Three bytes fit.
 use Rattle.std.proofs.Common.{arith}
-use Rattle.console.proofs.BufferLaws.{kept_new}
+use Rattle.buffer.proofs.BufferLaws.{kept_new}
 use Rattle.console.proofs.carry.ok_line.Goals as goal
 
 pub returns : goal.returns

@@ -3,7 +3,7 @@ use Rattle.std.proofs.Common.{refl}
 use Rattle.std.specs.Fmt.{digits}
 use Rattle.duplex.specs.State.{state, chi, iota, theta, pi, round, position, inject, step, reading}
 use Rattle.duplex.specs.Strings.{absorbed, enciphered, deciphered, blanked, readings, squeezed, drained}
-use Rattle.console.specs.Lines.{hex_fault, with_string, with_count}
+use Rattle.commands.specs.Lines.{hex_fault, with_string, with_count}
 use Rattle.console.specs.Replies.{line_bits, printed}
 use Rattle.console.specs.Runs.{lines_of, replies}
 use Rattle.console.proofs.example.worked_example.Goals as goal

@@ -1,21 +1,7 @@
--- One byte more, and the end of the text.
-use Rattle.std.proofs.Common.{sym, arith}
-use Rattle.wording.proofs.RunLaws.{run_more, run_ends, run_all}
+-- The place of the first byte that ends the run, or the end of the text.
+use Rattle.std.proofs.Common.{◌∙◌}
+use Rattle.wording.proofs.RunLaws.{run_found}
 use Rattle.wording.proofs.runs.before.Goals as goal
 
-pub loop-i-preserved : goal.loop-i-preserved
-loop-i-preserved c = run_more c.args.stop c.args.text.now c.loop-i.i c.loop-i-test.true (sym c.if-stops.ensures) c.loop-i.invariant
-
-pub returns-then-stops : goal.returns-then-stops
-returns-then-stops c =
-    record {
-      value = run_ends c.args.stop c.args.text.now c.loop-i.i c.loop-i-test.true (sym c.if-stops.ensures) c.loop-i.invariant;
-      within = omega arith;
-    }
-
-pub returns : goal.returns
-returns c =
-    record {
-      value = run_all c.args.stop c.args.text.now c.loop-i.i c.loop-i-test.false (omega arith) c.loop-i.invariant;
-      within = omega arith;
-    }
+pub returns-clause-value : goal.returns-clause-value
+returns-clause-value c = c.unwrap_or.ensures ∙ run_found c.args.stop c.args.text.now c.first_stop.result c.first_stop.ensures
