@@ -1,5 +1,6 @@
 -- Runs: each call of a receiving end is due; refused frames leave no trace; answers are determined; both ends stand together.
-use Rattle.std.proofs.Common.{◌≡◌, ℕ, ◌+◌, ◌≤◌, List, [], ◌∷◌, map, length, take, drop, Some, Ok, Err, vec_items, sym, refl, ap, ◌∙◌, subst, ap₂, add-zero, arith}
+use Rattle.std.proofs.Common.{◌≡◌, ℕ, ◌+◌, ◌≤◌, List, [], ◌∷◌, map, length, take, drop, Some, Ok, Err, vec_items, Vec, sym, refl, ap, ◌∙◌, subst, ap₂, add-zero, arith}
+use Rattle.std.specs.declared.alloc.Global.{Global}
 use Rattle.std.proofs.lemmas.List.{take_at}
 use Rattle.link.specs.declared.kind.Kind.{Kind}
 use Rattle.link.specs.Kinds.{kind_byte, text_length, least_room, kind_of}
@@ -7,50 +8,38 @@ use Rattle.link.specs.Frames.{Standing, started, body_in, text_in}
 use Rattle.link.specs.Sender.{writes, fed, next_of}
 use Rattle.link.specs.Calls.{Checked, take_answer, take_standing, take_text}
 use Rattle.link.proofs.Suite.{kind_byte_of, wrote, fed_next, accepted_is, accepted-writes, accepted-stands, only, refused_never}
-use Rattle.rehearsal.specs.declared.replies.Ask.{Ask}
-use Rattle.rehearsal.specs.declared.replies.Reply.{Reply}
-use Rattle.rehearsal.specs.declared.replies.Exchange.{Exchange}
+use Rattle.rehearsal.specs.declared.calls.Ask.{Ask}
+use Rattle.rehearsal.specs.declared.calls.Answer as given
 use Rattle.rehearsal.specs.Law.{Call, Answer, count, Due, Heard, kept, spoken, handed, accepted, Writing, Written, Owed, Sent, frames}
-use Rattle.rehearsal.specs.Law.Call.{take_frame, tell}
+use Rattle.rehearsal.specs.Law.Call.{take_frame}
 use Rattle.rehearsal.specs.Law.Answer.{taken, refused, told}
 use Rattle.rehearsal.specs.Law.Due.{accepts, refuses, tells}
 use Rattle.rehearsal.specs.Law.Heard.{silent, heard}
-use Rattle.rehearsal.specs.Rehearsals.{asked, asked_by, said, said_by, RoomBy, Roomy, replied, reply_by, text_by, taken_by, OneTaking, Along}
+use Rattle.rehearsal.specs.Rehearsals.{ReceivingCall, asked, asked_by, said, said_by, RoomBy, Roomy, taking, answer_by, buffer_by, standing_by, One, Along}
 
 -- One call is due.
 
 abbrev Fits : Standing → Call → Answer → Standing → Type 0
 Fits m c a m' = Due m m.number c a m' × (m'.number ≡ m.number + count a)
 
-fits_taking : (m m' : Standing) (f old new : List ℕ) (r : Reply) (a : Checked) → least_room ≤ length old → take_answer m f (length old) ≡ a → r ≡ replied a → new ≡ take_text m f old a → m' ≡ take_standing m f a → Fits m (take_frame f) (said_by r new) m'
+fits_taking : (m m' : Standing) (f old new : List ℕ) (r : given.Answer Kind) (a : Checked) → least_room ≤ length old → take_answer m f (length old) ≡ a → r ≡ given.Answer.Made a → new ≡ take_text m f old a → m' ≡ take_standing m f a → Fits m (take_frame f) (said_by r new) m'
 fits_taking m m' f old new r (Ok k) room h er en em =
     let size = (accepted_is m f (length old) k h).size in
-    let text : text_in m f ≡ take (text_length k) new = sym (ap (take (text_length k)) en ∙ take_at (text_in m f) (drop (length (body_in f)) old) (text_length k) size) in
-    let place : fed m (kind_byte k) (text_in m f) ≡ m' = sym (em ∙ accepted-stands m f (length old) k h) in
+    let text : take (text_length k) new ≡ text_in m f = ap (take (text_length k)) en ∙ take_at (text_in m f) (drop (length (body_in f)) old) (text_length k) size in
+    let place : m' ≡ fed m (kind_byte k) (text_in m f) = em ∙ accepted-stands m f (length old) k h in
     let w = accepted-writes m f (length old) k h in
     let due : Due m m.number (take_frame f) (taken k (text_in m f)) (fed m (kind_byte k) (text_in m f)) = accepts k (text_in m f) w (λ b u v. only m (kind_byte k) b (text_in m f) u f w v) in
-    let moved : Fits m (take_frame f) (taken k (take (text_length k) new)) m' = (
-      subst (λ (x : Standing). Due m m.number (take_frame f) (taken k (take (text_length k) new)) x) place
-          (subst (λ (x : List ℕ). Due m m.number (take_frame f) (taken k x) (fed m (kind_byte k) (text_in m f))) text due),
-      ap (λ (s : Standing). s.number) em,
-    ) in
-    subst (λ (x : Reply). Fits m (take_frame f) (said_by x new) m') (sym er) moved
-fits_taking m m' f old new r (Err e) room h er en em =
-    let due : Due m m.number (take_frame f) refused m = refuses (refused_never m f (length old) e room h) in
-    let moved : Fits m (take_frame f) refused m' =
-    (subst (λ (x : Standing). Due m m.number (take_frame f) refused x) (sym em) due, ap (λ (s : Standing). s.number) em ∙ sym (add-zero m.number)) in
-    subst (λ (x : Reply). Fits m (take_frame f) (said_by x new) m') (sym er) moved
+    rw er (rw (text, place) due, ap (λ (s : Standing). s.number) em)
+fits_taking m m' f old new r (Err e) room h er en em = rw (er, em) (refuses (refused_never m f (length old) e room h), sym (add-zero m.number))
 
-fits_one : (m m' : Standing) (a : Ask) (old new : List ℕ) (r : Reply) → RoomBy a (length old) → r ≡ reply_by m a old → new ≡ text_by m a old → m' ≡ taken_by m a old → Fits m (asked_by a) (said_by r new) m'
-fits_one m m' (Ask.Take frame) old new r room er en em = fits_taking m m' (vec_items frame) old new r (take_answer m (vec_items frame) (length old)) room refl er en em
-fits_one m m' Ask.Tell old new r room er en em =
-    subst (λ (x : Reply). Fits m tell (said_by x new) m') (sym er)
-    (subst (λ (x : Standing). Due m m.number tell (told m.number) x) (sym em) tells, ap (λ (s : Standing). s.number) em ∙ sym (add-zero m.number))
+fits_one : (m m' : Standing) (a : Ask (Vec ℕ Global)) (old new : List ℕ) (r : given.Answer Kind) → RoomBy a (length old) → r ≡ answer_by taking m a old → new ≡ buffer_by taking m a old → m' ≡ standing_by taking m a old → Fits m (asked_by a) (said_by r new) m'
+fits_one m m' (Ask.Make frame) old new r room er en em = fits_taking m m' (vec_items frame) old new r (take_answer m (vec_items frame) (length old)) room refl er en em
+fits_one m m' Ask.Tell old new r room er en em = rw (er, em) (tells, sym (add-zero m.number))
 
-pub heard_along : {m m'' : Standing} {xs ys : List Exchange} → Along OneTaking m xs ys m'' → Roomy xs → Heard m m.number (map asked xs) (map said ys) m'' m''.number
+pub heard_along : {m m'' : Standing} {xs ys : List ReceivingCall} → Along (One taking) m xs ys m'' → Roomy xs → Heard m m.number (map asked xs) (map said ys) m'' m''.number
 heard_along Along.none room = silent
 heard_along {m} {m''} (Along.next {m'} {x} {y} {xs} {ys} one rest) room =
-    let fits = fits_one m m' x.ask (vec_items x.buffer) (vec_items y.buffer) y.reply room.0 one.reply one.buffer one.place in
+    let fits = fits_one m m' x.ask (vec_items x.buffer) (vec_items y.buffer) y.answer room.0 one.answer one.buffer one.place in
     heard fits.0 (subst (λ (n : ℕ). Heard m' n (map asked xs) (map said ys) m'' m''.number) fits.1 (heard_along rest room.1))
 
 -- Refused frames leave no trace.

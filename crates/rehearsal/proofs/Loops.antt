@@ -1,5 +1,5 @@
 -- The invariant of a loop over calls.
-use Rattle.std.proofs.Common.{◌≡◌, ℕ, ◌+◌, ◌<◌, ◌≤◌, List, [], ◌∷◌, ◌++◌, length, get_or, take, drop, set, sym, ap, ◌∙◌, subst, arith}
+use Rattle.std.proofs.Common.{◌≡◌, ℕ, ◌+◌, ◌<◌, ◌≤◌, List, [], ◌∷◌, ◌++◌, length, get_or, take, drop, set, ap, ◌∙◌, arith}
 use Rattle.std.proofs.lemmas.List.{append_assoc, append-nil, drop_more, drop_all, take_all, take_more_set, drop-set-lt}
 use Rattle.link.specs.Frames.{Standing}
 use Rattle.rehearsal.specs.Rehearsals.{Along}
@@ -9,19 +9,15 @@ module _ {X : Type 0} (One : Standing → X → X → Standing → Type 0) where
   abbrev pub Going : Standing → List X → Standing → List X → ℕ → Type 0
   Going start all m xs i = (ys : List X) (last : Standing) → Along One m (drop i xs) ys last → Along One start all (take i xs ++ ys) last
 
-  pub going_starts : (start m : Standing) (all : List X) → m ≡ start → Going start all m all 0
-  going_starts start m all e ys last h = subst (λ (z : Standing). Along One z all ys last) e h
-
-  pub going_on : (start m m' : Standing) (all xs : List X) (i : ℕ) (d y : X) → i < length xs → One m (get_or xs i d) y m' → Going start all m xs i → Going start all m' (set xs i y) (i + 1)
-  going_on start m m' all xs i d y h one inv ys last rest =
+  pub going_on : {start m m' : Standing} {all : List X} (xs : List X) (i : ℕ) (d y : X) → i < length xs → One m (get_or xs i d) y m' → Going start all m xs i → Going start all m' (set xs i y) (i + 1)
+  going_on {start} {m} {m'} {all} xs i d y h one inv ys last rest =
       let lt : i < i + 1 = omega arith in
       let todo : drop i xs ≡ get_or xs i d ∷ drop (i + 1) xs = drop_more xs i d h in
       let left : drop (i + 1) (set xs i y) ≡ drop (i + 1) xs = drop-set-lt (i + 1) xs i y lt in
       let so : take (i + 1) (set xs i y) ++ ys ≡ take i xs ++ (y ∷ ys) = ap (λ (z : List X). z ++ ys) (take_more_set xs i y h) ∙ append_assoc (take i xs) (y ∷ []) ys in
-      subst (λ (z : List X). Along One start all z last) (sym so)
-      (inv (y ∷ ys) last (subst (λ (z : List X). Along One m z (y ∷ ys) last) (sym todo) (Along.next one (subst (λ (z : List X). Along One m' z ys last) left rest))))
+      rw so (inv (y ∷ ys) last (rw todo (Along.next one (rw left at rest))))
 
-  pub going_ends : (start m : Standing) (all xs : List X) (i : ℕ) → length xs ≤ i → Going start all m xs i → Along One start all xs m
-  going_ends start m all xs i h inv =
-      subst (λ (z : List X). Along One start all z m) (append-nil (take i xs) ∙ take_all i xs h)
-      (inv [] m (subst (λ (z : List X). Along One m z [] m) (sym (drop_all i xs h)) Along.none))
+  pub going_ends : {start m : Standing} {all : List X} (xs : List X) (i : ℕ) → length xs ≤ i → Going start all m xs i → Along One start all xs m
+  going_ends {start} {m} {all} xs i h inv =
+      let done : take i xs ++ [] ≡ xs = append-nil (take i xs) ∙ take_all i xs h in
+      rw done at (inv [] m (rw (drop_all i xs h) Along.none))

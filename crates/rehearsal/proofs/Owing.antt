@@ -1,5 +1,5 @@
 -- Runs of a sending end: each call is owed.
-use Rattle.std.proofs.Common.{◌≡◌, ℕ, ◌+◌, ◌<◌, ◌≤◌, Bool, true, false, cond, ◌&&◌, eqb, ltb, List, ◌++◌, map, length, drop, Some, None, vec_items, Option, sym, refl, ap, ◌∙◌, subst, add-zero, arith}
+use Rattle.std.proofs.Common.{◌≡◌, ℕ, ◌+◌, ◌<◌, ◌≤◌, Bool, true, false, cond, ◌&&◌, eqb, ltb, List, ◌++◌, map, length, drop, Some, None, Err, vec_items, Option, sym, refl, ap, ◌∙◌, subst, add-zero, arith}
 use Rattle.std.proofs.lemmas.Bool.{le-ltb, ne_eqb}
 use Rattle.link.specs.declared.kind.Kind.{Kind}
 use Rattle.link.specs.declared.fault.LinkFault.{LinkFault}
@@ -10,14 +10,14 @@ use Rattle.link.specs.Calls.{Checked, vetted, wrote_pair, wrote_standing, wrote_
 use Rattle.link.proofs.Suite.{byte_of_kind, writes_frame, fed_next, frame_length}
 use Rattle.link.proofs.Writings.{Vetted, view}
 use Rattle.link.proofs.Writings.Vetted.{spent, unknown, long, short, passed}
-use Rattle.rehearsal.specs.declared.receipts.Order.{Order}
-use Rattle.rehearsal.specs.declared.receipts.Receipt.{Receipt}
-use Rattle.rehearsal.specs.declared.receipts.Dispatch.{Dispatch}
+use Rattle.rehearsal.specs.declared.calls.Ask.{Ask}
+use Rattle.rehearsal.specs.declared.calls.Answer.{Answer}
+use Rattle.rehearsal.specs.declared.calls.Message.{Message}
 use Rattle.rehearsal.specs.Law.{Writing, Written, tally, Withholds, Owed, Sent}
 use Rattle.rehearsal.specs.Law.Writing.{write_text}
 use Rattle.rehearsal.specs.Law.Written.{wrote, refused}
 use Rattle.rehearsal.specs.Law.Owed.{writes_next, too_tight, writes_nothing, tells}
-use Rattle.rehearsal.specs.Rehearsals.{ordered, ordered_by, done, done_by, receipted, receipt_by, frame_by, written_by, OneWriting, Along}
+use Rattle.rehearsal.specs.Rehearsals.{SendingCall, ordered, ordered_by, done, done_by, writing, answer_by, buffer_by, standing_by, One, Along}
 
 -- Where the suite's sender writes nothing.
 
@@ -54,13 +54,13 @@ module _ (m : Standing) (b : ℕ) (t old : List ℕ) where
         (subst (λ (i : ℕ). Owed m m.number (write_text b t old) (wrote i m.number (f ++ drop i old)) (fed m b t)) frame_size (writes_next writes_it fits))
 
   -- one writing
-  abbrev Owes : Receipt → List ℕ → Standing → Type 0
+  abbrev Owes : Answer (ℕ × ℕ) → List ℕ → Standing → Type 0
   Owes r new m' = Owed m m.number (write_text b t old) (done_by r new) m' × (m'.number ≡ m.number + tally (done_by r new))
 
-  refuses : (e : LinkFault) → Owed m m.number (write_text b t old) (refused e old) m → Owes (Receipt.Refused e) old m
+  refuses : (e : LinkFault) → Owed m m.number (write_text b t old) (refused e old) m → Owes (Answer.Made (Err e)) old m
   refuses e h = (h, sym (add-zero m.number))
 
-  owes : (a : Checked) → Vetted m.number b t (length old) a → Owes (receipted (wrote_pair m a)) (wrote_out m t old a) (wrote_standing m t a)
+  owes : (a : Checked) → Vetted m.number b t (length old) a → Owes (Answer.Made (wrote_pair m a)) (wrote_out m t old a) (wrote_standing m t a)
   unfolding next_of
   owes a (passed k below e size room) = (owed_frame k below e size room, refl)
   owes a (short k below e size tight) = refuses _ (too_tight (writes_it k below e size) (let n = frame_size k below e size in omega arith))
@@ -73,18 +73,15 @@ module _ (m : Standing) (b : ℕ) (t old : List ℕ) where
 abbrev Fits : Standing → Writing → Written → Standing → Type 0
 Fits m w v m' = Owed m m.number w v m' × (m'.number ≡ m.number + tally v)
 
-fits_order : (m : Standing) (o : Order) (old : List ℕ) → Fits m (ordered_by o old) (done_by (receipt_by m o old) (frame_by m o old)) (written_by m o old)
-fits_order m (Order.Write kind text) old = owes m kind (vec_items text) old (vetted m.number kind (vec_items text) (length old)) (view m.number kind (vec_items text) (length old))
-fits_order m Order.Tell old = (tells, sym (add-zero m.number))
+fits_order : (m : Standing) (o : Ask Message) (old : List ℕ) → Fits m (ordered_by o old) (done_by (answer_by writing m o old) (buffer_by writing m o old)) (standing_by writing m o old)
+fits_order m (Ask.Make message) old = owes m message.kind (vec_items message.text) old (vetted m.number message.kind (vec_items message.text) (length old)) (view m.number message.kind (vec_items message.text) (length old))
+fits_order m Ask.Tell old = (tells, sym (add-zero m.number))
 
-fits_one : (m m' : Standing) (o : Order) (old new : List ℕ) (r : Receipt) → r ≡ receipt_by m o old → new ≡ frame_by m o old → m' ≡ written_by m o old → Fits m (ordered_by o old) (done_by r new) m'
-fits_one m m' o old new r er en em =
-    subst (λ (x : Standing). Fits m (ordered_by o old) (done_by r new) x) (sym em)
-    (subst (λ (x : List ℕ). Fits m (ordered_by o old) (done_by r x) (written_by m o old)) (sym en)
-    (subst (λ (x : Receipt). Fits m (ordered_by o old) (done_by x (frame_by m o old)) (written_by m o old)) (sym er) (fits_order m o old)))
+fits_one : (m m' : Standing) (o : Ask Message) (old new : List ℕ) (r : Answer (ℕ × ℕ)) → r ≡ answer_by writing m o old → new ≡ buffer_by writing m o old → m' ≡ standing_by writing m o old → Fits m (ordered_by o old) (done_by r new) m'
+fits_one m m' o old new r er en em = rw (er, en, em) (fits_order m o old)
 
-pub sent_along : {m m'' : Standing} {xs ys : List Dispatch} → Along OneWriting m xs ys m'' → Sent m m.number (map ordered xs) (map done ys) m'' m''.number
+pub sent_along : {m m'' : Standing} {xs ys : List SendingCall} → Along (One writing) m xs ys m'' → Sent m m.number (map ordered xs) (map done ys) m'' m''.number
 sent_along Along.none = Sent.silent
 sent_along {m} {m''} (Along.next {m'} {x} {y} {xs} {ys} one rest) =
-    let fits = fits_one m m' x.order (vec_items x.buffer) (vec_items y.buffer) y.receipt one.receipt one.buffer one.place in
+    let fits = fits_one m m' x.ask (vec_items x.buffer) (vec_items y.buffer) y.answer one.answer one.buffer one.place in
     Sent.sent fits.0 (subst (λ (n : ℕ). Sent m' n (map ordered xs) (map done ys) m'' m''.number) fits.1 (sent_along rest))

@@ -4,17 +4,15 @@
 ghost use Rattle.link.specs.Calls.{receiving, sending};
 ghost use Rattle.rehearsal.specs.Rehearsals.{Agreed, Delivered};
 
-use crate::receipts::send;
-use crate::replies::receive;
+use crate::endpoint::play;
 use duplex::Engine;
 use link::{ReceivingEnd, SendingEnd};
 use session::{Key, Nonce};
 
-mod receipts;
-mod replies;
+mod calls;
+mod endpoint;
 
-pub use receipts::{Dispatch, Order, Receipt};
-pub use replies::{Ask, Exchange, Reply};
+pub use calls::{Answer, Ask, Call, Dispatch, Exchange, Message};
 
 // The three ends of a rehearsal.
 #[derive(Drop)]
@@ -24,8 +22,8 @@ pub struct Ends<R, S, W> {
     pub sender: SendingEnd<W>,
 }
 
-// Takes a receiving end through `calls`, a second one through `again` and a sending end through `orders`, and fills in their answers.
-pub fn rehearse<R: Engine + Drop, S: Engine + Drop, W: Engine + Drop>(
+// Takes a receiving end through `calls`, a second one through `again` and a sending end through `orders`, and fills in their answers. Key and nonce stay two arguments, as of a session: a key outlives a nonce.
+pub fn rehearse<R: Engine, S: Engine, W: Engine>(
     key: &Key,
     nonce: &Nonce,
     calls: &mut [Exchange],
@@ -35,9 +33,9 @@ pub fn rehearse<R: Engine + Drop, S: Engine + Drop, W: Engine + Drop>(
     ensures law { Agreed key.now.bytes nonce.now.bytes calls.old calls.new again.old again.new orders.old orders.new (receiving R.Engine.bits result.first) (receiving S.Engine.bits result.second) (sending W.Engine.bits result.sender) }
     ensures delivered { Delivered calls.old calls.new orders.new }
 {
-    let first = receive(key, nonce, calls);
-    let second = receive(key, nonce, again);
-    let sender = send(key, nonce, orders);
+    let first = play(key, nonce, calls);
+    let second = play(key, nonce, again);
+    let sender = play(key, nonce, orders);
     Ends {
         first,
         second,

@@ -1,12 +1,10 @@
 // Carrying out a script: the frames that the panel writes, and what the head is handed of them.
-use crate::script::{Entry, Fault, Figure, Step};
-use rehearsal::{Ask, Dispatch, Exchange, Order, Receipt, Reply};
+use crate::fault::{Fault, Reason, Trouble};
+use crate::script::{Entry, Figure, Place, Step};
+use link::{Kind, OVERHEAD};
+use rehearsal::{Answer, Ask, Call, Dispatch, Exchange, Message};
 use std::alloc::{AllocError, Global};
-
-// Room for the frame and for the text of every kind.
-const FRAME_ROOM: usize = 53;
-
-const TEXT_ROOM: usize = 32;
+use std::{fmt, slice};
 
 // What the head is handed.
 #[derive(Clone, Copy)]
@@ -15,44 +13,67 @@ pub enum Parcel {
     Flipped(usize, usize),
     Given,
     Again,
-    // where the head is only asked to tell
-    Nothing,
 }
 
-// What a line of the script led to. A call is told by its place in its list.
+impl fmt::Display for Parcel {
+    fn fmt<W: fmt::Write>(&self, f: &mut fmt::Formatter<W>) -> fmt::Result {
+        match *self {
+            Parcel::Frame(n) => write!(f, "frame {n}"),
+            Parcel::Flipped(n, bit) => write!(f, "frame {n} with bit {bit} flipped"),
+            Parcel::Given => write!(f, "the given bytes"),
+            Parcel::Again => write!(f, "the same bytes again"),
+        }
+    }
+}
+
+// What a line of the script led to. Calls come in the order of their lists; the head is handed something, or only asked to tell.
 #[derive(Clone, Copy)]
 pub enum Event {
     Opened,
-    Panel(usize),
-    Head(usize, Parcel),
+    Panel,
+    Head(Option<Parcel>),
     Lost(usize),
-    Failed(Fault),
 }
 
+// What a line led to, or why it is not carried out.
 #[derive(Clone, Copy)]
 pub struct Note {
     pub line: usize,
-    pub event: Event,
+    pub outcome: Result<Event, Fault>,
 }
 
-fn telling(heap: Global) -> Dispatch {
-    Dispatch {
-        order: Order::Tell,
-        buffer: Vec::new(heap),
-        receipt: Receipt::Told(0),
-    }
+// Room for the text of every kind: a zone's name is the longest.
+fn text_room() -> usize {
+    Kind::ZoneName.text_len()
+}
+
+// A call that asks an end for its number.
+fn telling<Q: Drop, T: Drop>(heap: Global) -> Call<Q, T> {
+    Call::new(Ask::Tell, Vec::new(heap))
+}
+
+// A call with a request, and so much room in its buffer.
+fn making<Q: Drop, T: Drop>(
+    heap: Global,
+    request: Q,
+    room: usize,
+) -> Result<Call<Q, T>, AllocError> {
+    Ok(Call::new(Ask::Make(request), vec![in heap; 0; room]?))
 }
 
 // The orders that a script has for the panel.
 pub(crate) fn list_orders(heap: Global, entries: &[Entry]) -> Result<Vec<Dispatch>, AllocError> {
+    let room = text_room().saturating_add(OVERHEAD);
     let mut orders = Vec::new(heap);
     for entry in entries {
         match &entry.step {
-            Ok(Step::Write(kind, text)) => orders.push(Dispatch {
-                order: Order::Write(*kind, text.clone()?),
-                buffer: vec![in heap; 0; FRAME_ROOM]?,
-                receipt: Receipt::Told(0),
-            })?,
+            Ok(Step::Write(kind, text)) => {
+                let message = Message {
+                    kind: *kind,
+                    text: text.clone()?,
+                };
+                orders.push(making(heap, message, room)?)?;
+            }
             Ok(Step::Tell) => orders.push(telling(heap))?,
             _ => {}
         }
@@ -61,225 +82,184 @@ pub(crate) fn list_orders(heap: Global, entries: &[Entry]) -> Result<Vec<Dispatc
 }
 
 // The frame that a dispatch has written, if it has.
-pub(crate) fn frame_of(heap: Global, dispatch: &Dispatch) -> Result<Option<Vec<u8>>, AllocError> {
-    match dispatch.receipt {
-        Receipt::Wrote(size, _) => {
-            let frame = dispatch.buffer.iter().take(size).copied().collect(heap)?;
-            Ok(Some(frame))
-        }
-        _ => Ok(None),
+pub(crate) fn written_frame(dispatch: &Dispatch) -> Option<&[u8]> {
+    match dispatch.answer {
+        Answer::Made(Ok((size, _))) => dispatch.buffer.as_slice().get(..size),
+        _ => None,
+    }
+}
+
+// The bytes that the head was handed in a call, if it was.
+fn handed_bytes(call: &Exchange) -> Option<&Vec<u8>> {
+    match &call.ask {
+        Ask::Make(bytes) => Some(bytes),
+        Ask::Tell => None,
     }
 }
 
 // Goes through a script, whose orders the panel has answered.
 #[derive(Drop)]
-pub struct Courier {
+pub struct Courier<'a> {
+    heap: Global,
+    // the orders that the script has not given yet
+    orders: slice::Iter<'a, Dispatch>,
     // the frames written so far, and how many of them have left the panel
-    frames: Vec<Vec<u8>>,
+    frames: Vec<&'a [u8]>,
     left: usize,
-    // how many orders the script has given so far
-    ordered: usize,
-    last: Option<usize>,
     calls: Vec<Exchange>,
     notes: Vec<Note>,
 }
 
-impl Courier {
-    pub(crate) fn new(heap: Global) -> Courier {
+impl<'a> Courier<'a> {
+    pub(crate) fn new(heap: Global, orders: &'a [Dispatch]) -> Courier<'a> {
         Courier {
+            heap,
+            orders: orders.iter(),
             frames: Vec::new(heap),
             left: 0,
-            ordered: 0,
-            last: None,
             calls: Vec::new(heap),
             notes: Vec::new(heap),
         }
     }
 
-    fn note(&mut self, line: usize, event: Event) -> Result<(), AllocError> {
-        self.notes.push(Note { line, event })?;
+    fn note(&mut self, line: usize, event: Event) -> Result<(), Trouble> {
+        let outcome = Ok(event);
+        self.notes.push(Note { line, outcome })?;
         Ok(())
     }
 
-    fn fail(&mut self, line: usize, column: usize, reason: &'static str) -> Result<(), AllocError> {
-        self.note(line, Event::Failed(Fault { column, reason }))
+    // A copy of a written frame.
+    fn frame(&self, frame: Figure) -> Result<Vec<u8>, Trouble> {
+        let bytes = self.frames.get(frame.value);
+        let bytes = bytes.ok_or(Fault::new(frame.column, Reason::NotWritten))?;
+        Ok(bytes.to_vec(self.heap)?)
     }
 
     // Hands bytes to the head.
-    fn offer(
-        &mut self,
-        heap: Global,
-        line: usize,
-        parcel: Parcel,
-        bytes: Vec<u8>,
-    ) -> Result<(), AllocError> {
-        let call = self.calls.len();
-        self.calls.push(Exchange {
-            ask: Ask::Take(bytes),
-            buffer: vec![in heap; 0; TEXT_ROOM]?,
-            reply: Reply::Told(0),
-        })?;
-        self.last = Some(call);
-        self.note(line, Event::Head(call, parcel))
+    fn offer(&mut self, line: usize, parcel: Parcel, bytes: Vec<u8>) -> Result<(), Trouble> {
+        self.calls.push(making(self.heap, bytes, text_room())?)?;
+        self.note(line, Event::Head(Some(parcel)))
     }
 
-    fn hand_frame(&mut self, heap: Global, line: usize, frame: Figure) -> Result<(), AllocError> {
-        match self.frames.get(frame.value) {
-            Some(bytes) => {
-                let bytes = bytes.clone()?;
-                self.offer(heap, line, Parcel::Frame(frame.value), bytes)
-            }
-            None => self.fail(
-                line,
-                frame.column,
-                "no frame with this number is written yet",
-            ),
-        }
+    fn hand(&mut self, line: usize, frame: Figure) -> Result<(), Trouble> {
+        let bytes = self.frame(frame)?;
+        self.offer(line, Parcel::Frame(frame.value), bytes)
     }
 
-    // Answers whether there is such a bit.
-    fn hand_flipped(
-        &mut self,
-        heap: Global,
-        line: usize,
-        bit: Figure,
-        frame: Figure,
-    ) -> Result<bool, AllocError> {
-        let Some(bytes) = self.frames.get(frame.value) else {
-            self.fail(
-                line,
-                frame.column,
-                "no frame with this number is written yet",
-            )?;
-            return Ok(false);
-        };
-        let mut bytes = bytes.clone()?;
-        let Some(byte) = bytes.get_mut(bit.value / 8) else {
-            self.fail(line, bit.column, "the frame has no such bit")?;
-            return Ok(false);
-        };
+    fn flip(&mut self, line: usize, bit: Figure, frame: Figure) -> Result<(), Trouble> {
+        let mut bytes = self.frame(frame)?;
+        let byte = bytes.get_mut(bit.value / 8);
+        let byte = byte.ok_or(Fault::new(bit.column, Reason::NoSuchBit))?;
         *byte ^= 1u8 << (bit.value % 8);
-        self.offer(heap, line, Parcel::Flipped(frame.value, bit.value), bytes)?;
-        Ok(true)
+        self.offer(line, Parcel::Flipped(frame.value, bit.value), bytes)
     }
 
-    fn repeat(&mut self, heap: Global, line: usize, column: usize) -> Result<(), AllocError> {
-        if let Some(last) = self.last {
-            if let Some(call) = self.calls.get(last) {
-                if let Ask::Take(bytes) = &call.ask {
-                    let bytes = bytes.clone()?;
-                    return self.offer(heap, line, Parcel::Again, bytes);
-                }
-            }
-        }
-        self.fail(line, column, "nothing was handed over yet")
+    fn repeat(&mut self, at: Place) -> Result<(), Trouble> {
+        let last = self.calls.iter().rev().find_map(handed_bytes);
+        let bytes = last.ok_or(Fault::new(at.column, Reason::NothingHanded))?;
+        let bytes = bytes.clone()?;
+        self.offer(at.line, Parcel::Again, bytes)
     }
 
-    fn swap(&mut self, heap: Global, line: usize, column: usize) -> Result<(), AllocError> {
+    fn swap(&mut self, at: Place) -> Result<(), Trouble> {
+        let Place { line, column } = at;
         let first = self.left;
         let second = first.saturating_add(1);
         if second >= self.frames.len() {
-            return self.fail(line, column, "two written frames are wanted");
+            return Err(Fault::new(column, Reason::TwoFramesWanted).into());
         }
         for value in [second, first] {
-            self.hand_frame(heap, line, Figure { value, column })?;
+            self.hand(line, Figure { value, column })?;
         }
         self.left = second.saturating_add(1);
         Ok(())
     }
 
     // The panel's next order, with its answer.
-    fn write(&mut self, heap: Global, line: usize, orders: &[Dispatch]) -> Result<(), AllocError> {
-        let place = self.ordered;
-        self.ordered = place.saturating_add(1);
-        if let Some(dispatch) = orders.get(place) {
-            if let Some(frame) = frame_of(heap, dispatch)? {
-                self.frames.push(frame)?;
-            }
+    fn order(&mut self, line: usize) -> Result<(), Trouble> {
+        if let Some(frame) = self.orders.next().and_then(written_frame) {
+            self.frames.push(frame)?;
         }
-        self.note(line, Event::Panel(place))
+        self.note(line, Event::Panel)
     }
 
-    fn tell(&mut self, heap: Global, line: usize) -> Result<(), AllocError> {
-        let place = self.ordered;
-        self.ordered = place.saturating_add(1);
-        let call = self.calls.len();
-        self.calls.push(Exchange {
-            ask: Ask::Tell,
-            buffer: Vec::new(heap),
-            reply: Reply::Told(0),
-        })?;
-        self.note(line, Event::Panel(place))?;
-        self.note(line, Event::Head(call, Parcel::Nothing))
+    fn tell(&mut self, line: usize) -> Result<(), Trouble> {
+        self.order(line)?;
+        self.calls.push(telling(self.heap))?;
+        self.note(line, Event::Head(None))
     }
 
-    // A step that makes the next written frame leave the panel.
-    fn forward(&mut self, heap: Global, entry: &Entry, step: &Step) -> Result<(), AllocError> {
-        let line = entry.line;
+    // The written frame that leaves the panel next.
+    fn next_frame(&self, column: usize) -> Result<Figure, Fault> {
         let value = self.left;
-        let column = entry.column;
-        if value >= self.frames.len() {
-            return self.fail(line, column, "every written frame has left");
+        if value < self.frames.len() {
+            Ok(Figure { value, column })
+        } else {
+            Err(Fault::new(column, Reason::AllLeft))
         }
+    }
+
+    fn lose(&mut self, at: Place) -> Result<(), Trouble> {
+        let frame = self.next_frame(at.column)?;
+        self.left = frame.value.saturating_add(1);
+        self.note(at.line, Event::Lost(frame.value))
+    }
+
+    fn hand_next(&mut self, at: Place) -> Result<(), Trouble> {
+        let frame = self.next_frame(at.column)?;
+        self.left = frame.value.saturating_add(1);
+        self.hand(at.line, frame)
+    }
+
+    // Where it has no such bit, the frame stays.
+    fn flip_next(&mut self, at: Place, bit: Figure) -> Result<(), Trouble> {
+        let frame = self.next_frame(at.column)?;
+        self.flip(at.line, bit, frame)?;
+        self.left = frame.value.saturating_add(1);
+        Ok(())
+    }
+
+    fn step(&mut self, at: Place, step: &Step) -> Result<(), Trouble> {
         match step {
-            Step::Lose => self.note(line, Event::Lost(value))?,
-            Step::Flip(bit, _) => {
-                if !self.hand_flipped(heap, line, *bit, Figure { value, column })? {
-                    return Ok(());
-                }
-            }
-            _ => self.hand_frame(heap, line, Figure { value, column })?,
+            Step::Open(_) => self.note(at.line, Event::Opened),
+            Step::Write(_, _) => self.order(at.line),
+            Step::Hand(None) => self.hand_next(at),
+            Step::Hand(Some(frame)) => self.hand(at.line, *frame),
+            Step::Flip(bit, None) => self.flip_next(at, *bit),
+            Step::Flip(bit, Some(frame)) => self.flip(at.line, *bit, *frame),
+            Step::Lose => self.lose(at),
+            Step::Repeat => self.repeat(at),
+            Step::Swap => self.swap(at),
+            Step::Bytes(bytes) => self.offer(at.line, Parcel::Given, bytes.clone()?),
+            Step::Tell => self.tell(at.line),
         }
-        self.left = value.saturating_add(1);
+    }
+
+    fn carry(&mut self, entry: &Entry) -> Result<(), AllocError> {
+        let done = match &entry.step {
+            Ok(step) => self.step(entry.place, step),
+            Err(fault) => Err(Trouble::Line(*fault)),
+        };
+        match done {
+            Ok(()) => {}
+            Err(Trouble::Line(fault)) => self.notes.push(Note {
+                line: entry.place.line,
+                outcome: Err(fault),
+            })?,
+            Err(Trouble::Memory(error)) => return Err(error),
+        }
         Ok(())
     }
 
-    fn carry(
-        &mut self,
-        heap: Global,
-        entry: &Entry,
-        orders: &[Dispatch],
-    ) -> Result<(), AllocError> {
-        let line = entry.line;
-        match &entry.step {
-            Err(fault) => self.note(line, Event::Failed(*fault)),
-            Ok(Step::Open(_, _)) => self.note(line, Event::Opened),
-            Ok(Step::Write(_, _)) => self.write(heap, line, orders),
-            Ok(Step::HandFrame(frame)) => self.hand_frame(heap, line, *frame),
-            Ok(Step::Flip(bit, Some(frame))) => {
-                let _ = self.hand_flipped(heap, line, *bit, *frame)?;
-                Ok(())
-            }
-            Ok(Step::Repeat) => self.repeat(heap, line, entry.column),
-            Ok(Step::Swap) => self.swap(heap, line, entry.column),
-            Ok(Step::Bytes(bytes)) => self.offer(heap, line, Parcel::Given, bytes.clone()?),
-            Ok(Step::Tell) => self.tell(heap, line),
-            Ok(step) => self.forward(heap, entry, step),
-        }
-    }
-
+    // Carries out all of a script, and gives the calls and the notes that this made.
     pub(crate) fn carry_all(
-        &mut self,
-        heap: Global,
+        mut self,
         entries: &[Entry],
-        orders: &[Dispatch],
-    ) -> Result<(), AllocError> {
+    ) -> Result<(Vec<Exchange>, Vec<Note>), AllocError> {
         for entry in entries {
-            self.carry(heap, entry, orders)?;
+            self.carry(entry)?;
         }
-        Ok(())
-    }
-
-    // The calls and the notes that it has made.
-    pub(crate) fn finish(self) -> (Vec<Exchange>, Vec<Note>) {
-        let Courier {
-            frames: _,
-            left: _,
-            ordered: _,
-            last: _,
-            calls,
-            notes,
-        } = self;
-        (calls, notes)
+        let Courier { calls, notes, .. } = self;
+        Ok((calls, notes))
     }
 }

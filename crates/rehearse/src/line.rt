@@ -20,7 +20,7 @@ impl<'a> Words<'a> {
     pub(crate) fn new(line: &'a [u8]) -> Words<'a> {
         let end = before(line, Stop::Byte(b'#'));
         Words {
-            rest: &line[0..end],
+            rest: &line[..end],
             column: 1,
         }
     }
@@ -29,20 +29,21 @@ impl<'a> Words<'a> {
     pub(crate) fn column(&self) -> usize {
         self.column
     }
+}
 
-    pub(crate) fn next(&mut self) -> Option<Word<'a>> {
+impl<'a> Iterator for Words<'a> {
+    type Item = Word<'a>;
+
+    fn next(&mut self) -> Option<Word<'a>> {
         let gap = before(self.rest, Stop::Word);
         let begun = &self.rest[gap..];
         if begun.is_empty() {
             return None;
         }
-        let n = before(begun, Stop::Blank);
+        let (text, rest) = begun.split_at(before(begun, Stop::Blank));
         let column = self.column.saturating_add(gap);
-        self.rest = &begun[n..];
-        self.column = column.saturating_add(n);
-        Some(Word {
-            text: &begun[0..n],
-            column,
-        })
+        self.rest = rest;
+        self.column = column.saturating_add(text.len());
+        Some(Word { text, column })
     }
 }

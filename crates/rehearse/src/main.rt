@@ -1,26 +1,28 @@
 // Rehearsals of the link: a script of frames between a panel and a head.
 #![tactic(auto)]
 
-use anyhow::anyhow;
+use anyhow::{anyhow, bail, ensure};
+use cli::EngineName;
 use duplex::Engine;
 use plain::Plain;
 use postponed::Postponed;
 use session::{Key, Nonce};
 use std::env::Args;
-use std::io::{BufWriter, Read, Write};
+use std::io::Read;
 use std::process::ExitCode;
 use std::{env, fs};
 use words::Packed;
 
 mod courier;
+mod fault;
 mod line;
 mod million;
 mod script;
 mod show;
 mod stage;
 
-use script::Script;
-use show::Out;
+use script::{Opening, Script};
+use show::Screen;
 
 const USAGE: &str = "usage: rehearse [FILE]
        rehearse --million [plain | packed | postponed]
@@ -60,82 +62,72 @@ fn read_input(rt: &HostRuntime, name: &str) -> anyhow::Result<Vec<u8>> {
     }
 }
 
-fn rehearse_script(rt: &HostRuntime, out: &mut Out, name: &str) -> anyhow::Result<()> {
+fn rehearse_script(rt: &HostRuntime, screen: &mut Screen<'_>, name: &str) -> anyhow::Result<()> {
     let text = read_input(rt, name)?;
     let script = Script::read(rt.alloc(), text.as_slice())?;
-    let Some((key, nonce)) = script.opening else {
-        show::print_faults(rt, out, script.entries.as_slice())?;
-        return Err(anyhow!("the ends were not opened"));
+    let Some(opening) = script.opening else {
+        screen.print_faults(script.entries.as_slice())?;
+        bail!("the ends were not opened");
     };
-    let all = stage::perform(rt.alloc(), &key, &nonce, script.entries.as_slice())?;
-    if show::print_rehearsal(rt, out, &all)? {
-        Ok(())
-    } else {
-        Err(anyhow!("not every line was carried out"))
+    let all = stage::perform(rt.alloc(), &opening, script.entries.as_slice())?;
+    let good = screen.print_rehearsal(&all)?;
+    ensure!(good, "not every line was carried out");
+    Ok(())
+}
+
+// The engine that is named, or the plain one.
+fn engine_of(mut args: Args) -> anyhow::Result<EngineName> {
+    let name = args.next();
+    ensure!(args.next().is_none(), "more than one engine; try --help");
+    match name {
+        None => Ok(EngineName::Plain),
+        Some(name) => name.parse().map_err(|error| anyhow!("{error}; try --help")),
     }
 }
 
-fn use_all_numbers(out: &mut Out, mut args: Args) -> anyhow::Result<()> {
-    let key = Key { bytes: [0; 16] };
-    let nonce = Nonce { bytes: [0; 16] };
-    let engine = args.next();
-    if args.next().is_some() {
-        return Err(anyhow!("more than one engine; try --help"));
-    }
+fn use_all_numbers(screen: &mut Screen<'_>, engine: EngineName) -> anyhow::Result<()> {
+    let opening = Opening {
+        key: Key { bytes: [0; 16] },
+        nonce: Nonce { bytes: [0; 16] },
+    };
+    // A closure cannot be generic over the engine, and a trait with an impl in each program would be longer than these three arms.
     let tally = match engine {
-        None => million::pass_all::<Postponed, Plain>(&key, &nonce),
-        Some(engine) => match engine.as_str() {
-            "plain" => million::pass_all::<Postponed, Plain>(&key, &nonce),
-            "packed" => million::pass_all::<Postponed, Packed>(&key, &nonce),
-            "postponed" => million::pass_all::<Postponed, Postponed>(&key, &nonce),
-            _ => return Err(anyhow!("no such engine; try --help")),
-        },
+        EngineName::Plain => million::pass_all::<Postponed, Plain>(&opening),
+        EngineName::Packed => million::pass_all::<Postponed, Packed>(&opening),
+        EngineName::Postponed => million::pass_all::<Postponed, Postponed>(&opening),
     };
-    show::print_tally(out, &tally)?;
-    if tally.is_full() {
-        Ok(())
-    } else {
-        Err(anyhow!("not every number was used"))
-    }
+    screen.print(&tally)?;
+    ensure!(tally.is_full(), "not every number was used");
+    Ok(())
 }
 
-fn run(rt: &HostRuntime, out: &mut Out) -> anyhow::Result<()> {
+fn run(rt: &HostRuntime, screen: &mut Screen<'_>) -> anyhow::Result<()> {
     let mut args = env::args(rt)?;
     let _program = args.next();
     let Some(first) = args.next() else {
-        return rehearse_script(rt, out, "-");
+        return rehearse_script(rt, screen, "-");
     };
     if first.as_str() == "--million" {
-        return use_all_numbers(out, args);
+        return use_all_numbers(screen, engine_of(args)?);
     }
-    if args.next().is_some() {
-        return Err(anyhow!("more than one argument; try --help"));
-    }
+    ensure!(args.next().is_none(), "more than one argument; try --help");
     match first.as_str() {
-        "-h" | "--help" => Ok(writeln!(out, "{USAGE}")?),
-        "-" => rehearse_script(rt, out, "-"),
+        "-h" | "--help" => Ok(screen.print(&USAGE)?),
+        "-" => rehearse_script(rt, screen, "-"),
         name => {
-            if name.starts_with('-') {
-                return Err(anyhow!(format!(in rt.alloc(); "unknown option {name}; try --help")?));
-            }
-            rehearse_script(rt, out, name)
+            ensure!(!name.starts_with('-'), "unknown option {name}; try --help");
+            rehearse_script(rt, screen, name)
         }
     }
 }
 
 fn start(rt: &HostRuntime) -> anyhow::Result<()> {
-    let mut out = BufWriter::new(rt.alloc(), rt.stdout())?;
-    let done = run(rt, &mut out);
-    out.flush()?;
+    let mut screen = Screen::new(rt)?;
+    let done = run(rt, &mut screen);
+    screen.flush()?;
     done
 }
 
 fn main(rt: HostRuntime) -> ExitCode {
-    match start(&rt) {
-        Ok(()) => ExitCode::SUCCESS,
-        Err(error) => {
-            let _ = eprintln!(rt; "rehearse: {error}");
-            ExitCode::FAILURE
-        }
-    }
+    cli::report(&rt, "rehearse", start(&rt))
 }

@@ -1,15 +1,13 @@
 // All the frames that two ends have numbers for.
+use crate::script::Opening;
 use duplex::Engine;
-use link::{Kind, LinkFault, ReceivingEnd, SendingEnd};
-use session::{Key, Nonce};
+use link::{Kind, LARGEST, LinkFault, OVERHEAD, ReceivingEnd, SendingEnd};
 
-const MILLION: u32 = 1_000_000;
-
-// The bytes of a heartbeat's frame.
-const FRAME: usize = 21;
+// The bytes of a heartbeat's frame, whose text is empty.
+const FRAME: usize = OVERHEAD;
 
 // What came of it: how many heartbeats were written with their number and taken, and the numbers of both ends.
-#[derive(Clone, Copy)]
+#[derive(Clone, Copy, PartialEq)]
 pub struct Tally {
     pub passed: u32,
     pub panel: u32,
@@ -20,14 +18,13 @@ pub struct Tally {
 }
 
 // Whether the next heartbeat is written with this number, and taken.
-fn pass<W: Engine + Drop, R: Engine + Drop>(
+fn pass<W: Engine, R: Engine>(
     panel: &mut SendingEnd<W>,
     head: &mut ReceivingEnd<R>,
     number: u32,
 ) -> bool {
     let mut frame = [0u8; FRAME];
-    let kind = Kind::Heartbeat.byte();
-    match panel.write(kind, &[], &mut frame) {
+    match panel.write(Kind::Heartbeat.into(), &[], &mut frame) {
         Ok((FRAME, carried)) => {
             carried == number && head.take(&frame, &mut []).is_ok() && head.tell() == panel.tell()
         }
@@ -36,18 +33,20 @@ fn pass<W: Engine + Drop, R: Engine + Drop>(
 }
 
 // Passes heartbeats from a panel to a head until all numbers are used, and tries one more.
-pub(crate) fn pass_all<W: Engine + Drop, R: Engine + Drop>(key: &Key, nonce: &Nonce) -> Tally {
+pub(crate) fn pass_all<W: Engine, R: Engine>(opening: &Opening) -> Tally {
+    let Opening { key, nonce } = opening;
     let mut panel = SendingEnd::<W>::begin(key, nonce);
     let mut head = ReceivingEnd::<R>::begin(key, nonce);
+    // `take_while(..).count()` is no plainer: its closure changes both ends, and the count is a usize.
     let mut passed = 0;
-    for number in 0..MILLION {
+    for number in 0..LARGEST {
         if !pass(&mut panel, &mut head, number) {
             break;
         }
         passed = number + 1;
     }
     let mut frame = [0u8; FRAME];
-    let unwritten = panel.write(Kind::Heartbeat.byte(), &[], &mut frame).err();
+    let unwritten = panel.write(Kind::Heartbeat.into(), &[], &mut frame).err();
     let untaken = head.take(&frame, &mut []).err();
     Tally {
         passed,
@@ -61,11 +60,13 @@ pub(crate) fn pass_all<W: Engine + Drop, R: Engine + Drop>(key: &Key, nonce: &No
 impl Tally {
     // Whether all numbers were used, and no more.
     pub(crate) fn is_full(&self) -> bool {
-        match (self.unwritten, self.untaken) {
-            (Some(LinkFault::Spent), Some(LinkFault::Spent)) => {
-                self.passed == MILLION && self.panel == MILLION && self.head == MILLION
+        *self
+            == Tally {
+                passed: LARGEST,
+                panel: LARGEST,
+                head: LARGEST,
+                unwritten: Some(LinkFault::Spent),
+                untaken: Some(LinkFault::Spent),
             }
-            _ => false,
-        }
     }
 }

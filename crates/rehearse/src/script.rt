@@ -1,10 +1,17 @@
 // What a script says.
+use crate::fault::{Fault, Reason, Trouble};
 use crate::line::{Word, Words};
 use session::{Key, Nonce};
 use std::alloc::{AllocError, Global};
-use wording::{Stop, before};
 
-// A number, and where it stands.
+// What the ends are opened with.
+#[derive(Clone, Copy)]
+pub struct Opening {
+    pub key: Key,
+    pub nonce: Nonce,
+}
+
+// A number, and the column at which it stands.
 #[derive(Clone, Copy)]
 pub struct Figure {
     pub value: usize,
@@ -13,13 +20,12 @@ pub struct Figure {
 
 #[derive(Drop)]
 pub enum Step {
-    Open(Key, Nonce),
+    Open(Opening),
+    // a kind's byte, as the panel takes it, and a text
     Write(u8, Vec<u8>),
-    // the next written frame
-    Hand,
-    // a written frame by its number
-    HandFrame(Figure),
-    // the next written frame, or the named one, with one bit changed
+    // the next written frame, or the named one
+    Hand(Option<Figure>),
+    // the same with one bit changed
     Flip(Figure, Option<Figure>),
     Lose,
     Repeat,
@@ -28,170 +34,149 @@ pub enum Step {
     Tell,
 }
 
-// Why a line is not carried out.
-#[derive(Clone, Copy)]
-pub struct Fault {
-    pub column: usize,
-    pub reason: &'static str,
-}
+// The saturated value of a word of decimal digits.
+impl<'a> TryFrom<Word<'a>> for Figure {
+    type Error = Fault;
 
-#[derive(Clone, Copy)]
-pub enum Trouble {
-    Line(Fault),
-    Memory,
-}
-
-impl From<AllocError> for Trouble {
-    fn from(_error: AllocError) -> Trouble {
-        Trouble::Memory
+    fn try_from(word: Word<'a>) -> Result<Figure, Fault> {
+        let Word { text, column } = word;
+        if let Some(i) = text.iter().position(|c| !c.is_ascii_digit()) {
+            return Err(Fault::new(column.saturating_add(i), Reason::NoDigit));
+        }
+        let value = text.iter().fold(0usize, |value, c| {
+            value
+                .saturating_mul(10)
+                .saturating_add(usize::from(c.saturating_sub(b'0')))
+        });
+        Ok(Figure { value, column })
     }
 }
 
-fn bad(column: usize, reason: &'static str) -> Trouble {
-    Trouble::Line(Fault { column, reason })
+// Reads the words that follow a line's command.
+#[derive(Drop)]
+struct Reader<'a> {
+    heap: Global,
+    words: Words<'a>,
 }
 
-// The next word, or why one is wanted.
-fn wanted<'a>(words: &mut Words<'a>, reason: &'static str) -> Result<Word<'a>, Trouble> {
-    match words.next() {
-        Some(word) => Ok(word),
-        None => Err(bad(words.column(), reason)),
+impl<'a> Reader<'a> {
+    // The next word, or why one is wanted.
+    fn word(&mut self, reason: Reason) -> Result<Word<'a>, Fault> {
+        let word = self.words.next();
+        word.ok_or(Fault::new(self.words.column(), reason))
     }
-}
 
-fn bytes_of(heap: Global, word: Word<'_>) -> Result<Vec<u8>, Trouble> {
-    match wording::bad_place(word.text) {
-        None => Ok(wording::decode(heap, word.text)?),
-        Some(place) => {
-            let reason = if place < word.text.len() {
-                "not a hex digit"
-            } else {
-                "an odd count of hex digits"
-            };
-            Err(bad(word.column.saturating_add(place), reason))
+    // The bytes of a word, or what spoils it: told by a column of the line, so not as `sealed` and `digest` tell it.
+    fn bytes_of(&self, word: Word<'_>) -> Result<Vec<u8>, Trouble> {
+        let Some(place) = wording::bad_place(word.text) else {
+            return Ok(wording::decode(self.heap, word.text)?);
+        };
+        let reason = if place < word.text.len() {
+            Reason::NoHexDigit
+        } else {
+            Reason::OddDigits
+        };
+        Err(Fault::new(word.column.saturating_add(place), reason).into())
+    }
+
+    // The bytes of the next word, and none where there is no word.
+    fn bytes_if_any(&mut self) -> Result<Vec<u8>, Trouble> {
+        match self.words.next() {
+            Some(word) => self.bytes_of(word),
+            None => Ok(Vec::new(self.heap)),
         }
     }
-}
 
-// The bytes of the next word, and none where there is no word.
-fn bytes_if_any(heap: Global, words: &mut Words<'_>) -> Result<Vec<u8>, Trouble> {
-    match words.next() {
-        Some(word) => bytes_of(heap, word),
-        None => Ok(Vec::new(heap)),
+    fn sixteen(&mut self, reason: Reason) -> Result<[u8; 16], Trouble> {
+        let word = self.word(reason)?;
+        let bytes = self.bytes_of(word)?;
+        let sixteen = bytes.as_slice().try_into();
+        Ok(sixteen.map_err(|_| Fault::new(word.column, reason))?)
     }
-}
 
-fn sixteen(heap: Global, words: &mut Words<'_>, reason: &'static str) -> Result<[u8; 16], Trouble> {
-    let word = wanted(words, reason)?;
-    let bytes = bytes_of(heap, word)?;
-    let mut all = [0u8; 16];
-    if bytes.len() != 16 {
-        return Err(bad(word.column, reason));
+    fn figure_if_any(&mut self) -> Result<Option<Figure>, Fault> {
+        self.words.next().map(Figure::try_from).transpose()
     }
-    all.copy_from_slice(bytes.as_slice());
-    Ok(all)
-}
 
-fn number_of(word: Word<'_>) -> Result<Figure, Trouble> {
-    let mut value = 0usize;
-    for (i, c) in word.text.iter().enumerate() {
-        let c = *c;
-        if c < b'0' || c > b'9' {
-            return Err(bad(word.column.saturating_add(i), "not a decimal digit"));
+    fn open(&mut self) -> Result<Step, Trouble> {
+        let key = self.sixteen(Reason::KeyWanted)?;
+        let nonce = self.sixteen(Reason::NonceWanted)?;
+        Ok(Step::Open(Opening {
+            key: Key { bytes: key },
+            nonce: Nonce { bytes: nonce },
+        }))
+    }
+
+    fn write(&mut self) -> Result<Step, Trouble> {
+        let word = self.word(Reason::KindWanted)?;
+        let kind = wording::kind_byte(word.text);
+        let kind = kind.ok_or(Fault::new(word.column, Reason::UnknownKind))?;
+        Ok(Step::Write(kind, self.bytes_if_any()?))
+    }
+
+    fn flip(&mut self) -> Result<Step, Trouble> {
+        let bit = self.word(Reason::BitWanted)?.try_into()?;
+        Ok(Step::Flip(bit, self.figure_if_any()?))
+    }
+
+    fn step_of(&mut self, command: Word<'_>) -> Result<Step, Trouble> {
+        match command.text {
+            b"open" => self.open(),
+            b"write" => self.write(),
+            b"hand" => Ok(Step::Hand(self.figure_if_any()?)),
+            b"flip" => self.flip(),
+            b"bytes" => Ok(Step::Bytes(self.bytes_if_any()?)),
+            b"drop" => Ok(Step::Lose),
+            b"repeat" => Ok(Step::Repeat),
+            b"swap" => Ok(Step::Swap),
+            b"tell" => Ok(Step::Tell),
+            _ => Err(Fault::new(command.column, Reason::UnknownCommand).into()),
         }
-        value = value
-            .saturating_mul(10)
-            .saturating_add(usize::from(c - b'0'));
-    }
-    Ok(Figure {
-        value,
-        column: word.column,
-    })
-}
-
-fn figure_if_any(words: &mut Words<'_>) -> Result<Option<Figure>, Trouble> {
-    match words.next() {
-        Some(word) => Ok(Some(number_of(word)?)),
-        None => Ok(None),
-    }
-}
-
-fn open(heap: Global, words: &mut Words<'_>) -> Result<Step, Trouble> {
-    let key = sixteen(heap, words, "a key of 32 hex digits is wanted")?;
-    let nonce = sixteen(heap, words, "a nonce of 32 hex digits is wanted")?;
-    Ok(Step::Open(Key { bytes: key }, Nonce { bytes: nonce }))
-}
-
-fn write(heap: Global, words: &mut Words<'_>) -> Result<Step, Trouble> {
-    let word = wanted(words, "a kind is wanted")?;
-    match wording::kind_byte(word.text) {
-        Some(kind) => Ok(Step::Write(kind, bytes_if_any(heap, words)?)),
-        None => Err(bad(word.column, "neither the name of a kind nor two hex digits")),
-    }
-}
-
-fn hand(words: &mut Words<'_>) -> Result<Step, Trouble> {
-    match figure_if_any(words)? {
-        Some(frame) => Ok(Step::HandFrame(frame)),
-        None => Ok(Step::Hand),
-    }
-}
-
-fn flip(words: &mut Words<'_>) -> Result<Step, Trouble> {
-    let bit = number_of(wanted(words, "the number of a bit is wanted")?)?;
-    Ok(Step::Flip(bit, figure_if_any(words)?))
-}
-
-fn step_of(heap: Global, command: Word<'_>, words: &mut Words<'_>) -> Result<Step, Trouble> {
-    match command.text {
-        b"open" => open(heap, words),
-        b"write" => write(heap, words),
-        b"hand" => hand(words),
-        b"flip" => flip(words),
-        b"bytes" => Ok(Step::Bytes(bytes_if_any(heap, words)?)),
-        b"drop" => Ok(Step::Lose),
-        b"repeat" => Ok(Step::Repeat),
-        b"swap" => Ok(Step::Swap),
-        b"tell" => Ok(Step::Tell),
-        _ => Err(bad(command.column, "no such command")),
     }
 }
 
 // The step of a line, if it has any, and the column at which it begins.
 fn parse(heap: Global, line: &[u8]) -> Result<Option<(usize, Step)>, Trouble> {
-    let mut words = Words::new(line);
-    let Some(command) = words.next() else {
+    let words = Words::new(line);
+    let mut reader = Reader { heap, words };
+    let Some(command) = reader.words.next() else {
         return Ok(None);
     };
-    let step = step_of(heap, command, &mut words)?;
-    match words.next() {
+    let step = reader.step_of(command)?;
+    match reader.words.next() {
         None => Ok(Some((command.column, step))),
-        Some(word) => Err(bad(word.column, "a word too many")),
+        Some(word) => Err(Fault::new(word.column, Reason::ExtraWord).into()),
     }
+}
+
+// Where something of the script stands.
+#[derive(Clone, Copy)]
+pub struct Place {
+    pub line: usize,
+    pub column: usize,
 }
 
 // A line with something on it.
 #[derive(Drop)]
 pub struct Entry {
-    pub line: usize,
-    pub column: usize,
+    pub place: Place,
     pub step: Result<Step, Fault>,
 }
 
 #[derive(Drop)]
 pub struct Script {
     pub entries: Vec<Entry>,
-    pub opening: Option<(Key, Nonce)>,
+    pub opening: Option<Opening>,
 }
 
 impl Script {
     // Holds a step to what came before it: the ends are opened once, and first.
-    fn place(&mut self, step: Step) -> Result<Step, &'static str> {
-        match (&step, self.opening.is_some()) {
-            (Step::Open(key, nonce), false) => self.opening = Some((*key, *nonce)),
-            (Step::Open(_, _), true) => return Err("the ends are open already"),
-            (_, false) => return Err("the ends are not open yet"),
-            (_, true) => {}
+    fn admit(&mut self, step: Step) -> Result<Step, Reason> {
+        match (&step, self.opening) {
+            (Step::Open(opening), None) => self.opening = Some(*opening),
+            (Step::Open(_), Some(_)) => return Err(Reason::OpenAlready),
+            (_, None) => return Err(Reason::NotOpen),
+            (_, Some(_)) => {}
         }
         Ok(step)
     }
@@ -199,37 +184,29 @@ impl Script {
     fn read_line(&mut self, heap: Global, number: usize, line: &[u8]) -> Result<(), AllocError> {
         let (column, step) = match parse(heap, line) {
             Ok(None) => return Ok(()),
-            Ok(Some((column, step))) => match self.place(step) {
+            Ok(Some((column, step))) => match self.admit(step) {
                 Ok(step) => (column, Ok(step)),
-                Err(reason) => (column, Err(Fault { column, reason })),
+                Err(reason) => (column, Err(Fault::new(column, reason))),
             },
             Err(Trouble::Line(fault)) => (fault.column, Err(fault)),
-            Err(Trouble::Memory) => return Err(AllocError),
+            Err(Trouble::Memory(error)) => return Err(error),
         };
-        self.entries.push(Entry {
+        let place = Place {
             line: number,
             column,
-            step,
-        })?;
+        };
+        self.entries.push(Entry { place, step })?;
         Ok(())
     }
 
+    // What follows the last line feed has no word where it is empty, and so counts for nothing.
     pub(crate) fn read(heap: Global, text: &[u8]) -> Result<Script, AllocError> {
         let mut script = Script {
             entries: Vec::new(heap),
             opening: None,
         };
-        let mut rest = text;
-        for i in 0..text.len() {
-            if rest.is_empty() {
-                break;
-            }
-            let n = before(rest, Stop::Byte(b'\n'));
-            script.read_line(heap, i + 1, &rest[0..n])?;
-            rest = match &rest[n..] {
-                [_line_feed, more @ ..] => more,
-                none => none,
-            };
+        for (i, line) in text.split(|b| *b == b'\n').enumerate() {
+            script.read_line(heap, i.saturating_add(1), line)?;
         }
         Ok(script)
     }

@@ -1,11 +1,10 @@
 // The rehearsal of a script on three engines.
-use crate::courier::{Courier, Note, frame_of, list_orders};
-use crate::script::Entry;
+use crate::courier::{Courier, Note, list_orders, written_frame};
+use crate::script::{Entry, Opening};
 use duplex::Engine;
 use plain::Plain;
 use postponed::Postponed;
-use rehearsal::{Ask, Dispatch, Ends, Exchange, Reply, rehearse};
-use session::{Key, Nonce};
+use rehearsal::{Answer, Ask, Call, Dispatch, Ends, Exchange, rehearse};
 use std::alloc::{AllocError, Global};
 use words::Packed;
 
@@ -21,26 +20,22 @@ pub struct Rehearsed {
     ends: Cast,
 }
 
-fn same_call(heap: Global, call: &Exchange) -> Result<Exchange, AllocError> {
-    let ask = match &call.ask {
-        Ask::Take(frame) => Ask::Take(frame.clone()?),
-        Ask::Tell => Ask::Tell,
-    };
-    Ok(Exchange {
-        ask,
-        buffer: vec![in heap; 0; call.buffer.len()]?,
-        reply: Reply::Told(0),
-    })
+// Whether the head has not refused.
+fn is_kept(call: &Exchange) -> bool {
+    !matches!(call.answer, Answer::Made(Err(_)))
+}
+
+// The same call, not yet answered.
+fn unanswered(heap: Global, call: &Exchange) -> Result<Exchange, AllocError> {
+    let buffer = vec![in heap; 0; call.buffer.len()]?;
+    Ok(Call::new(call.ask.clone()?, buffer))
 }
 
 // The calls without the refused frames.
 fn list_kept(heap: Global, calls: &[Exchange]) -> Result<Vec<Exchange>, AllocError> {
     let mut kept = Vec::new(heap);
-    for call in calls {
-        match call.reply {
-            Reply::Refused(_) => {}
-            _ => kept.push(same_call(heap, call)?)?,
-        }
+    for call in calls.iter().filter(|call| is_kept(call)) {
+        kept.push(unanswered(heap, call)?)?;
     }
     Ok(kept)
 }
@@ -48,15 +43,14 @@ fn list_kept(heap: Global, calls: &[Exchange]) -> Result<Vec<Exchange>, AllocErr
 // Which frames there are to hand over shows once the panel has written them, and which calls the second end is given once the head has answered. So the orders are rehearsed alone, then with the calls, and at last all three lists together: only that rehearsal is told.
 pub(crate) fn perform(
     heap: Global,
-    key: &Key,
-    nonce: &Nonce,
+    opening: &Opening,
     entries: &[Entry],
 ) -> Result<Rehearsed, AllocError> {
+    let Opening { key, nonce } = opening;
     let mut orders = list_orders(heap, entries)?;
     let _: Cast = rehearse(key, nonce, &mut [], &mut [], orders.as_mut_slice());
-    let mut courier = Courier::new(heap);
-    courier.carry_all(heap, entries, orders.as_slice())?;
-    let (mut calls, notes) = courier.finish();
+    let courier = Courier::new(heap, orders.as_slice());
+    let (mut calls, notes) = courier.carry_all(entries)?;
     let _: Cast = rehearse(
         key,
         nonce,
@@ -81,24 +75,12 @@ pub(crate) fn perform(
     })
 }
 
-fn list_frames(heap: Global, orders: &[Dispatch]) -> Result<Vec<Vec<u8>>, AllocError> {
-    let mut frames = Vec::new(heap);
-    for dispatch in orders {
-        if let Some(frame) = frame_of(heap, dispatch)? {
-            frames.push(frame)?;
-        }
+// The frame that the head has accepted in a call, if it has.
+fn accepted_frame(call: &Exchange) -> Option<&[u8]> {
+    match (&call.answer, &call.ask) {
+        (Answer::Made(Ok(_)), Ask::Make(frame)) => Some(frame.as_slice()),
+        _ => None,
     }
-    Ok(frames)
-}
-
-// Whether two calls were answered alike.
-fn is_alike(a: &Exchange, b: &Exchange) -> bool {
-    let same = match (a.reply, b.reply) {
-        (Reply::Taken(x), Reply::Taken(y)) => x.byte() == y.byte(),
-        (Reply::Told(x), Reply::Told(y)) => x == y,
-        _ => false,
-    };
-    same && a.buffer.as_slice() == b.buffer.as_slice()
 }
 
 impl Rehearsed {
@@ -108,34 +90,14 @@ impl Rehearsed {
     }
 
     // Whether the frames that the head has accepted are all those that the panel has written. By the contract of `rehearse` both ends then stand at the same bits.
-    pub(crate) fn took_all(&self, heap: Global) -> Result<bool, AllocError> {
-        let written = list_frames(heap, self.orders.as_slice())?;
-        let mut count = 0usize;
-        for call in self.calls.iter() {
-            if let (Reply::Taken(_), Ask::Take(frame)) = (call.reply, &call.ask) {
-                match written.get(count) {
-                    Some(next) if next.as_slice() == frame.as_slice() => {
-                        count = count.saturating_add(1);
-                    }
-                    _ => return Ok(false),
-                }
-            }
-        }
-        Ok(count == written.len())
+    pub(crate) fn took_all(&self) -> bool {
+        let accepted = self.calls.iter().filter_map(accepted_frame);
+        accepted.eq(self.orders.iter().filter_map(written_frame))
     }
 
     // Whether the second end has answered its calls as the head did.
     pub(crate) fn second_agrees(&self) -> bool {
-        let mut kept = 0usize;
-        for call in self.calls.iter() {
-            if let Reply::Refused(_) = call.reply {
-                continue;
-            }
-            match self.again.get(kept) {
-                Some(other) if is_alike(call, other) => kept = kept.saturating_add(1),
-                _ => return false,
-            }
-        }
-        kept == self.again.len() && self.ends.first.tell() == self.ends.second.tell()
+        let kept = self.calls.iter().filter(|call| is_kept(call));
+        kept.eq(self.again.iter()) && self.ends.first.tell() == self.ends.second.tell()
     }
 }

@@ -1,23 +1,21 @@
 -- The parts of the law, from the three runs.
 use Rattle.std.proofs.Common.{ℕ, List, map, refl, subst}
 use Rattle.link.specs.Frames.{Standing, started}
-use Rattle.rehearsal.specs.declared.replies.Exchange.{Exchange}
-use Rattle.rehearsal.specs.declared.receipts.Dispatch.{Dispatch}
 use Rattle.rehearsal.specs.Law.{Call, Heard, Sent}
-use Rattle.rehearsal.specs.Rehearsals.{asked, said, ordered, done, Roomy, OneTaking, OneWriting, Along, Agreed, Delivered}
+use Rattle.rehearsal.specs.Rehearsals.{ReceivingCall, asked, said, SendingCall, ordered, done, Roomy, taking, writing, One, Along, Agreed, Delivered}
 use Rattle.rehearsal.proofs.Histories.{heard_along, pruned, determined, delivered, together, started_zero}
 use Rattle.rehearsal.proofs.Owing.{sent_along}
 use Rattle.rehearsal.proofs.rehearse.Goals as goal
 
 module _ (key nonce : List ℕ) where
-  heard_all : (xs ys : List Exchange) (m : Standing) → Along OneTaking (started key nonce) xs ys m → Roomy xs → Heard (started key nonce) 0 (map asked xs) (map said ys) m m.number
+  heard_all : (xs ys : List ReceivingCall) (m : Standing) → Along (One taking) (started key nonce) xs ys m → Roomy xs → Heard (started key nonce) 0 (map asked xs) (map said ys) m m.number
   heard_all xs ys m h room = subst (λ (n : ℕ). Heard (started key nonce) n (map asked xs) (map said ys) m m.number) (started_zero key nonce) (heard_along h room)
 
-  sent_all : (xs ys : List Dispatch) (m : Standing) → Along OneWriting (started key nonce) xs ys m → Sent (started key nonce) 0 (map ordered xs) (map done ys) m m.number
+  sent_all : (xs ys : List SendingCall) (m : Standing) → Along (One writing) (started key nonce) xs ys m → Sent (started key nonce) 0 (map ordered xs) (map done ys) m m.number
   sent_all xs ys m h = subst (λ (n : ℕ). Sent (started key nonce) n (map ordered xs) (map done ys) m m.number) (started_zero key nonce) (sent_along h)
 
-  agreed : (calls calls' again again' : List Exchange) (orders orders' : List Dispatch) (first second sender : Standing)
-      → Along OneTaking (started key nonce) calls calls' first → Along OneTaking (started key nonce) again again' second → Along OneWriting (started key nonce) orders orders' sender
+  agreed : (calls calls' again again' : List ReceivingCall) (orders orders' : List SendingCall) (first second sender : Standing)
+      → Along (One taking) (started key nonce) calls calls' first → Along (One taking) (started key nonce) again again' second → Along (One writing) (started key nonce) orders orders' sender
       → Agreed key nonce calls calls' again again' orders orders' first second sender
   agreed calls calls' again again' orders orders' first second sender a b w =
       record {
@@ -33,12 +31,12 @@ module _ (key nonce : List ℕ) where
         together = λ room e. together (started_zero key nonce) (heard_all calls calls' first a room) (sent_all orders orders' sender w) e;
       }
 
-  handed_all : (calls calls' : List Exchange) (orders orders' : List Dispatch) (first sender : Standing)
-      → Along OneTaking (started key nonce) calls calls' first → Along OneWriting (started key nonce) orders orders' sender → Delivered calls calls' orders'
+  handed_all : (calls calls' : List ReceivingCall) (orders orders' : List SendingCall) (first sender : Standing)
+      → Along (One taking) (started key nonce) calls calls' first → Along (One writing) (started key nonce) orders orders' sender → Delivered calls calls' orders'
   handed_all calls calls' orders orders' first sender a w room e = delivered (heard_all calls calls' first a room) (sent_all orders orders' sender w) e
 
 pub returns : goal.returns
 returns g c = record {
-  law = agreed _ _ _ _ _ _ _ _ _ _ _ c.receive-first.ensures c.receive-second.ensures c.send-sender.ensures;
-  delivered = handed_all _ _ _ _ _ _ _ _ c.receive-first.ensures c.send-sender.ensures;
+  law = agreed _ _ _ _ _ _ _ _ _ _ _ c.play-first.ensures c.play-second.ensures c.play-sender.ensures;
+  delivered = handed_all _ _ _ _ _ _ _ _ c.play-first.ensures c.play-sender.ensures;
 }
