@@ -1,7 +1,8 @@
 // The bench: reads a script of duplex operations and prints the suite's answers.
 #![tactic(auto)]
 
-use anyhow::anyhow;
+use anyhow::ensure;
+use cli::EngineName;
 use console::Console;
 use duplex::Engine;
 use plain::Plain;
@@ -44,12 +45,13 @@ fn run<E: Engine>(rt: &HostRuntime) -> io::Result<()> {
     let mut input = rt.stdin();
     let mut out = BufWriter::new(rt.alloc(), rt.stdout())?;
     let mut chunk = [0u8; 4096];
+    // A loop is bounded; the input ends before. One loop for all programs would take a closure, and a public function with one would need a `requires` that it may be called.
     for _ in 0..u64::MAX {
         let n = input.read(&mut chunk)?;
         if n == 0 {
             break;
         }
-        feed(&mut console, &chunk[0..n], &mut out)?;
+        feed(&mut console, &chunk[..n], &mut out)?;
         if console.is_done() {
             break;
         }
@@ -60,26 +62,37 @@ fn run<E: Engine>(rt: &HostRuntime) -> io::Result<()> {
     out.flush()
 }
 
+// A closure cannot be generic over the engine, and a trait with an impl in each program would be longer than the three arms.
+fn run_on(rt: &HostRuntime, engine: EngineName) -> io::Result<()> {
+    match engine {
+        EngineName::Plain => run::<Plain>(rt),
+        EngineName::Packed => run::<Packed>(rt),
+        EngineName::Postponed => run::<Postponed>(rt),
+    }
+}
+
+// The engine of a name. Where there is none, the usage is printed.
+fn read_engine(rt: &HostRuntime, name: &str) -> anyhow::Result<EngineName> {
+    match name.parse() {
+        Ok(engine) => Ok(engine),
+        Err(error) => {
+            rt.eprintln(USAGE)?;
+            Err(error.into())
+        }
+    }
+}
+
 fn start(rt: &HostRuntime) -> anyhow::Result<()> {
     let mut args = env::args(rt)?;
     let _program = args.next();
-    let Some(engine) = args.next() else {
-        return Ok(run::<Postponed>(rt)?);
+    let Some(word) = args.next() else {
+        return Ok(run_on(rt, EngineName::default())?);
     };
-    if args.next().is_some() {
-        return Err(anyhow!("more than one argument; try --help"));
+    ensure!(args.next().is_none(), "more than one argument; try --help");
+    match word.as_str() {
+        "-h" | "--help" => Ok(rt.println(USAGE)?),
+        name => Ok(run_on(rt, read_engine(rt, name)?)?),
     }
-    match engine.as_str() {
-        "plain" => run::<Plain>(rt)?,
-        "packed" => run::<Packed>(rt)?,
-        "postponed" => run::<Postponed>(rt)?,
-        "-h" | "--help" => rt.println(USAGE)?,
-        _ => {
-            rt.eprintln(USAGE)?;
-            return Err(anyhow!("no such engine"));
-        }
-    }
-    Ok(())
 }
 
 fn main(rt: HostRuntime) -> anyhow::Result<()> {

@@ -1,39 +1,20 @@
-// Bytes as hex digits.
-ghost use Rattle.std.specs.Prelude.{◌<◌, IfOk};
+// Bytes that are written as hex digits.
+ghost use Rattle.std.specs.Prelude.{◌≡◌, ◌++◌, OnOk};
+ghost use Rattle.digits.specs.Digits.{bad_hex};
+ghost use Rattle.digits.specs.Pairs.{unhex};
 
-use anyhow::anyhow;
-use std::io;
-use std::io::Write;
+use anyhow::bail;
+use digits::{Letters, bad_place, bytes};
 
-fn digit_value(c: u8) -> anyhow::Result<u8>
-    ensures { IfOk result (λ v. v < 16) }
+// Appends the bytes that a word's digits write. The last byte of an odd count is told as that, whatever it is, and after every fault of a pair.
+pub(crate) fn push_bytes(row: &mut Vec<u8>, word: &str) -> anyhow::Result<()>
+    ensures sound { OnOk result (bad_hex Letters.Either word.now ≡ None) }
+    ensures bytes { OnOk result (row.new.items ≡ row.old.items ++ unhex word.now) }
 {
-    match c {
-        b'0'..=b'9' => Ok(c - b'0'),
-        b'a'..=b'f' => Ok(c - b'a' + 10),
-        b'A'..=b'F' => Ok(c - b'A' + 10),
-        _ => Err(anyhow!("not a hex digit")),
+    let digits = word.as_bytes();
+    match bad_place(Letters::Either, digits) {
+        None => Ok(row.extend_from_slice(&bytes(*row.allocator(), digits)?)?),
+        Some(place) if place < 2 * (digits.len() / 2) => bail!("not a hex digit"),
+        Some(_) => bail!("an odd count of hex digits"),
     }
-}
-
-// Appends the bytes that the digits write.
-pub(crate) fn push_bytes(bytes: &mut Vec<u8>, digits: &str) -> anyhow::Result<()> {
-    let mut rest = digits.as_bytes();
-    while let [high, low, more @ ..] = rest {
-        bytes.push(16 * digit_value(*high)? + digit_value(*low)?)?;
-        rest = more;
-    }
-    if rest.is_empty() {
-        Ok(())
-    } else {
-        Err(anyhow!("an odd count of hex digits"))
-    }
-}
-
-// Writes bytes as lower-case hex.
-pub(crate) fn write_bytes(out: &mut impl Write, bytes: &[u8]) -> io::Result<()> {
-    for b in bytes {
-        write!(out, "{b:02x}")?;
-    }
-    Ok(())
 }

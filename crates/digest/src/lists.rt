@@ -1,10 +1,14 @@
 // The digest and the deck function of strings that are written as hex.
-use crate::{hex, work};
+use crate::hex;
+use crate::report::Report;
+use crate::sums::STDIN;
+use crate::work::Chosen;
 use anyhow::anyhow;
-use digests::Entry;
+use digests::{Entry, EntryFault, deck, digest};
+use digits::Hex;
+use std::alloc::Global;
 use std::env::Args;
-use std::io::{BufRead, BufReader, BufWriter, Write};
-use std::rt::Stdout;
+use std::io::{BufRead, BufReader, Write};
 
 const MOST_BYTES: usize = 1_048_576;
 
@@ -15,92 +19,85 @@ struct Strings {
     entries: Vec<Entry>,
 }
 
-// Appends the bytes of an argument; `what` names it where it is no hex.
-fn push_argument(
-    rt: &HostRuntime,
-    bytes: &mut Vec<u8>,
-    what: &str,
-    digits: &str,
-) -> anyhow::Result<()> {
-    match hex::push_bytes(bytes, digits) {
-        Ok(()) => Ok(()),
-        Err(error) => Err(anyhow!(format!(in rt.alloc(); "{what}: {error}")?)),
-    }
-}
-
-fn read_strings(rt: &HostRuntime, args: Args) -> anyhow::Result<Strings> {
-    let mut buffer = Vec::new(rt.alloc());
-    let mut entries = Vec::new(rt.alloc());
-    for digits in args {
-        let start = buffer.len();
-        let length = digits.len() / 2;
-        push_argument(rt, &mut buffer, digits.as_str(), digits.as_str())?;
-        entries.push(Entry { start, length })?;
-    }
-    Ok(Strings { buffer, entries })
-}
-
-// The key of the next argument. An error does not show it.
-fn read_key(rt: &HostRuntime, args: &mut Args) -> anyhow::Result<Vec<u8>> {
-    let Some(mut digits) = args.next() else {
-        return Err(anyhow!("no KEY; try --help"));
-    };
-    if digits.as_str() == "-" {
-        let Some(line) = BufReader::new(rt.alloc(), rt.stdin())?
-            .lines(rt.alloc())
-            .next()
-        else {
-            return Err(anyhow!("KEY: standard input is empty"));
+impl Strings {
+    // Those that the arguments write.
+    fn read(heap: Global, args: Args) -> anyhow::Result<Strings> {
+        let mut strings = Strings {
+            buffer: Vec::new(heap),
+            entries: Vec::new(heap),
         };
-        digits = line?;
+        for digits in args {
+            strings.push(digits.as_str())?;
+        }
+        Ok(strings)
     }
-    let mut key = Vec::new(rt.alloc());
-    push_argument(rt, &mut key, "KEY", digits.as_str())?;
-    Ok(key)
+
+    fn push(&mut self, digits: &str) -> anyhow::Result<()> {
+        let entry = Entry {
+            start: self.buffer.len(),
+            length: digits.len() / 2,
+        };
+        push_argument(&mut self.buffer, digits, digits)?;
+        Ok(self.entries.push(entry)?)
+    }
+}
+
+// Appends the bytes of an argument; `what` names it where it is no hex.
+fn push_argument(bytes: &mut Vec<u8>, what: &str, digits: &str) -> anyhow::Result<()> {
+    hex::push_bytes(bytes, digits).map_err(|error| anyhow!("{what}: {error}"))
 }
 
 // As many zeros as the next argument says.
-fn room(rt: &HostRuntime, args: &mut Args) -> anyhow::Result<Vec<u8>> {
-    let Some(text) = args.next() else {
-        return Err(anyhow!("no LENGTH; try --help"));
-    };
-    match text.as_str().parse::<usize>() {
-        Ok(length) if length <= MOST_BYTES => Ok(vec![in rt.alloc(); 0; length]?),
-        _ => Err(anyhow!(format!(in rt.alloc(); "{text}: no LENGTH from 0 to {MOST_BYTES}")?)),
+fn room(heap: Global, args: &mut Args) -> anyhow::Result<Vec<u8>> {
+    let text = args.next().ok_or_else(|| anyhow!("no LENGTH; try --help"))?;
+    let length = text
+        .parse::<usize>()
+        .ok()
+        .filter(|length| *length <= MOST_BYTES)
+        .ok_or_else(|| anyhow!("{text}: no LENGTH from 0 to {MOST_BYTES}"))?;
+    Ok(vec![in heap; 0; length]?)
+}
+
+fn outside(_fault: EntryFault) -> anyhow::Error {
+    anyhow!("a string outside the buffer")
+}
+
+impl Report<'_> {
+    // The key of the next argument. An error does not show it.
+    fn read_key(&self, args: &mut Args) -> anyhow::Result<Vec<u8>> {
+        let heap = self.rt.alloc();
+        let mut digits = args.next().ok_or_else(|| anyhow!("no KEY; try --help"))?;
+        if digits.as_str() == STDIN {
+            digits = BufReader::new(heap, self.rt.stdin())?
+                .lines(heap)
+                .next()
+                .ok_or_else(|| anyhow!("KEY: standard input is empty"))??;
+        }
+        let mut key = Vec::new(heap);
+        push_argument(&mut key, "KEY", digits.as_str())?;
+        Ok(key)
     }
-}
 
-fn print_bytes(out: &mut BufWriter<Stdout>, bytes: &[u8]) -> anyhow::Result<()> {
-    hex::write_bytes(out, bytes)?;
-    writeln!(out)?;
-    Ok(())
-}
-
-// `strings LENGTH [STRING...]`
-pub(crate) fn digest_strings(
-    rt: &HostRuntime,
-    out: &mut BufWriter<Stdout>,
-    mut args: Args,
-) -> anyhow::Result<()> {
-    let mut digest = room(rt, &mut args)?;
-    let strings = read_strings(rt, args)?;
-    match work::digest_list(&strings.buffer, &strings.entries, &mut digest) {
-        Ok(()) => print_bytes(out, &digest),
-        Err(_) => Err(anyhow!("a string outside the buffer")),
+    fn print_bytes(&mut self, bytes: &[u8]) -> anyhow::Result<()> {
+        Ok(writeln!(self.out, "{}", Hex(bytes))?)
     }
-}
 
-// `derive KEY LENGTH [STRING...]`
-pub(crate) fn derive_key(
-    rt: &HostRuntime,
-    out: &mut BufWriter<Stdout>,
-    mut args: Args,
-) -> anyhow::Result<()> {
-    let key = read_key(rt, &mut args)?;
-    let mut derived = room(rt, &mut args)?;
-    let strings = read_strings(rt, args)?;
-    match work::deck_list(&key, &strings.buffer, &strings.entries, &mut derived) {
-        Ok(()) => print_bytes(out, &derived),
-        Err(_) => Err(anyhow!("a string outside the buffer")),
+    // `strings LENGTH [STRING...]`
+    pub(crate) fn digest_strings(&mut self, mut args: Args) -> anyhow::Result<()> {
+        let heap = self.rt.alloc();
+        let mut bytes = room(heap, &mut args)?;
+        let strings = Strings::read(heap, args)?;
+        digest::<Chosen>(&strings.buffer, &strings.entries, &mut bytes).map_err(outside)?;
+        self.print_bytes(&bytes)
+    }
+
+    // `derive KEY LENGTH [STRING...]`
+    pub(crate) fn derive_key(&mut self, mut args: Args) -> anyhow::Result<()> {
+        let heap = self.rt.alloc();
+        let key = self.read_key(&mut args)?;
+        let mut derived = room(heap, &mut args)?;
+        let strings = Strings::read(heap, args)?;
+        deck::<Chosen>(&key, &strings.buffer, &strings.entries, &mut derived).map_err(outside)?;
+        self.print_bytes(&derived)
     }
 }

@@ -1,15 +1,17 @@
 // Digests of files, in the form known from sha256sum, and keys by the deck function.
 #![tactic(auto)]
 
-use anyhow::anyhow;
+use anyhow::{bail, ensure};
+use report::Report;
 use std::env;
 use std::env::Args;
-use std::io::{BufWriter, Write};
+use std::io::Write;
 use std::process::ExitCode;
-use std::rt::Stdout;
+use sums::STDIN;
 
 mod hex;
 mod lists;
+mod report;
 mod sums;
 mod work;
 
@@ -30,76 +32,62 @@ KEY and each STRING are hex digits, two for a byte, and may be empty. Where KEY 
 the first line of standard input, so that no list of processes shows it.
 docs/DIGEST.md has all rules.";
 
-fn print_lines(
-    rt: &HostRuntime,
-    out: &mut BufWriter<Stdout>,
+// Does something for each name, and tells whether it succeeded for all.
+fn all<F: FnMut(&str) -> anyhow::Result<bool>>(
     first: &str,
-    args: Args,
-) -> anyhow::Result<()> {
-    let mut all = sums::print_line(rt, out, first)?;
-    for name in args {
-        all = sums::print_line(rt, out, name.as_str())? && all;
+    rest: Args,
+    mut each: F,
+) -> anyhow::Result<bool>
+    requires { (f : _) (x : _) → F.pre f x }
+{
+    let mut all = each(first)?;
+    for name in rest {
+        all &= each(name.as_str())?;
     }
-    if all {
-        Ok(())
-    } else {
-        Err(anyhow!("not every file was read"))
-    }
+    Ok(all)
 }
 
-fn check_lists(
-    rt: &HostRuntime,
-    out: &mut BufWriter<Stdout>,
-    mut args: Args,
-) -> anyhow::Result<()> {
-    let mut all = match args.next() {
-        Some(list) => sums::check_list(rt, out, list.as_str())?,
-        None => sums::check_list(rt, out, "-")?,
-    };
-    for list in args {
-        all = sums::check_list(rt, out, list.as_str())? && all;
-    }
-    if all {
-        Ok(())
-    } else {
-        Err(anyhow!("not every file is as listed"))
-    }
+fn print_lines(report: &mut Report, first: &str, rest: Args) -> anyhow::Result<()> {
+    let all = all(first, rest, |name| Ok(report.print_line(name)?))?;
+    ensure!(all, "not every file was read");
+    Ok(())
 }
 
-fn run(rt: &HostRuntime, out: &mut BufWriter<Stdout>) -> anyhow::Result<()> {
-    let mut args = env::args(rt)?;
+fn check_lists(report: &mut Report, mut args: Args) -> anyhow::Result<()> {
+    let first = args.next();
+    let first = first.as_deref().unwrap_or(STDIN);
+    let all = all(first, args, |list| report.check_list(list))?;
+    ensure!(all, "not every file is as listed");
+    Ok(())
+}
+
+fn run(report: &mut Report) -> anyhow::Result<()> {
+    let mut args = env::args(report.rt)?;
     let _program = args.next();
     let Some(first) = args.next() else {
-        return print_lines(rt, out, "-", args);
+        return print_lines(report, STDIN, args);
     };
     match first.as_str() {
-        "-h" | "--help" => Ok(writeln!(out, "{USAGE}")?),
-        "-c" | "--check" => check_lists(rt, out, args),
-        "strings" => lists::digest_strings(rt, out, args),
-        "derive" => lists::derive_key(rt, out, args),
-        "-" => print_lines(rt, out, "-", args),
+        "-h" | "--help" => Ok(writeln!(report.out, "{USAGE}")?),
+        "-c" | "--check" => check_lists(report, args),
+        "strings" => report.digest_strings(args),
+        "derive" => report.derive_key(args),
         name => {
-            if name.starts_with('-') {
-                return Err(anyhow!(format!(in rt.alloc(); "unknown option {name}; try --help")?));
+            if name != STDIN && name.starts_with('-') {
+                bail!("unknown option {name}; try --help");
             }
-            print_lines(rt, out, name, args)
+            print_lines(report, name, args)
         }
     }
 }
 
 fn start(rt: &HostRuntime) -> anyhow::Result<()> {
-    let mut out = BufWriter::new(rt.alloc(), rt.stdout())?;
-    let done = run(rt, &mut out);
-    out.flush()?;
+    let mut report = Report::new(rt)?;
+    let done = run(&mut report);
+    report.out.flush()?;
     done
 }
 
 fn main(rt: HostRuntime) -> ExitCode {
-    match start(&rt) {
-        Ok(()) => ExitCode::SUCCESS,
-        Err(error) => {
-            let _ = eprintln!(rt; "digest: {error}");
-            ExitCode::FAILURE
-        }
-    }
+    cli::report(&rt, "digest", start(&rt))
 }

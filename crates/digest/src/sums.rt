@@ -1,116 +1,105 @@
 // The digests of files, and lists of them.
+use crate::report::Report;
 use crate::{hex, work};
-use anyhow::anyhow;
-use std::io::{BufRead, BufReader, BufWriter, Read, Write};
-use std::rt::Stdout;
+use anyhow::{anyhow, ensure};
+use digits::Hex;
+use std::io::{BufRead, BufReader, Read, Write};
 use std::{fs, io};
 
 // The name that stands for standard input.
-const STDIN: &str = "-";
-
-// The digest of a file as one string.
-fn digest_file(rt: &HostRuntime, name: &str) -> io::Result<[u8; 32]> {
-    if name == STDIN {
-        work::digest_input(&mut rt.stdin())
-    } else {
-        work::digest_input(&mut fs::open(rt, name)?)
-    }
-}
-
-fn complain(rt: &HostRuntime, name: &str, error: &io::Error) -> io::Result<()> {
-    eprintln!(rt; "digest: {name}: {error}")
-}
-
-// Prints the line of a file, or says why there is none. Answers whether it printed one.
-pub(crate) fn print_line(
-    rt: &HostRuntime,
-    out: &mut BufWriter<Stdout>,
-    name: &str,
-) -> io::Result<bool> {
-    match digest_file(rt, name) {
-        Ok(digest) => {
-            hex::write_bytes(out, &digest)?;
-            writeln!(out, "  {name}")?;
-            Ok(true)
-        }
-        Err(error) => {
-            complain(rt, name, &error)?;
-            Ok(false)
-        }
-    }
-}
+pub(crate) const STDIN: &str = "-";
 
 // The digest that a line of a list writes, and the name behind it.
 fn parse_line<'a>(rt: &HostRuntime, line: &'a str) -> anyhow::Result<(Vec<u8>, &'a str)> {
-    let Some((digits, name)) = line.split_once("  ") else {
-        return Err(anyhow!("no digest, two blanks and a name"));
-    };
+    let (digits, name) = line
+        .split_once("  ")
+        .ok_or_else(|| anyhow!("no digest, two blanks and a name"))?;
     let mut digest = Vec::new(rt.alloc());
     hex::push_bytes(&mut digest, digits)?;
-    if digest.len() != 32 {
-        return Err(anyhow!("not the 64 digits of a digest"));
-    }
+    ensure!(digest.len() == 32, "not the 64 digits of a digest");
     Ok((digest, name))
 }
 
-// Holds a file to a line of a list and says how it does. Answers whether it is as it was.
-fn check_line(rt: &HostRuntime, out: &mut BufWriter<Stdout>, line: &str) -> anyhow::Result<bool> {
-    let (listed, name) = parse_line(rt, line)?;
-    match digest_file(rt, name) {
-        Ok(digest) => {
-            let same = listed.as_slice() == &digest[0..32];
-            let verdict = if same { "OK" } else { "FAILED" };
-            writeln!(out, "{name}: {verdict}")?;
-            Ok(same)
-        }
-        Err(error) => {
-            complain(rt, name, &error)?;
-            writeln!(out, "{name}: FAILED open or read")?;
-            Ok(false)
+impl Report<'_> {
+    // The digest of a file as one string.
+    fn digest_file(&self, name: &str) -> io::Result<[u8; 32]> {
+        if name == STDIN {
+            work::digest_input(&mut self.rt.stdin())
+        } else {
+            work::digest_input(&mut fs::open(self.rt, name)?)
         }
     }
-}
 
-// Holds files to the lines of a list. Answers whether all are as they were.
-fn check_lines<R: Read + Drop>(
-    rt: &HostRuntime,
-    out: &mut BufWriter<Stdout>,
-    list: &str,
-    input: R,
-) -> anyhow::Result<bool> {
-    let mut all = true;
-    let mut number = 0u64;
-    for line in BufReader::new(rt.alloc(), input)?.lines(rt.alloc()) {
-        number = number.saturating_add(1);
-        match check_line(rt, out, line?.as_str()) {
-            Ok(same) => all = all && same,
+    fn complain(&self, name: &str, error: &io::Error) -> io::Result<()> {
+        eprintln!(self.rt; "digest: {name}: {error}")
+    }
+
+    // Prints the line of a file, or says why there is none. Answers whether it printed one.
+    pub(crate) fn print_line(&mut self, name: &str) -> io::Result<bool> {
+        match self.digest_file(name) {
+            Ok(digest) => {
+                writeln!(self.out, "{}  {name}", Hex(&digest))?;
+                Ok(true)
+            }
             Err(error) => {
-                eprintln!(rt; "digest: {list}: line {number}: {error}")?;
-                all = false;
+                self.complain(name, &error)?;
+                Ok(false)
             }
         }
     }
-    if number == 0 {
-        eprintln!(rt; "digest: {list}: an empty list")?;
-        all = false;
-    }
-    Ok(all)
-}
 
-// The same of a list by its name.
-pub(crate) fn check_list(
-    rt: &HostRuntime,
-    out: &mut BufWriter<Stdout>,
-    list: &str,
-) -> anyhow::Result<bool> {
-    if list == STDIN {
-        return check_lines(rt, out, list, rt.stdin());
+    // Holds a file to a line of a list and says how it does. Answers whether it is as it was.
+    fn check_line(&mut self, line: &str) -> anyhow::Result<bool> {
+        let (listed, name) = parse_line(self.rt, line)?;
+        match self.digest_file(name) {
+            Ok(digest) => {
+                let same = listed.as_slice() == digest.as_slice();
+                let verdict = if same { "OK" } else { "FAILED" };
+                writeln!(self.out, "{name}: {verdict}")?;
+                Ok(same)
+            }
+            Err(error) => {
+                self.complain(name, &error)?;
+                writeln!(self.out, "{name}: FAILED open or read")?;
+                Ok(false)
+            }
+        }
     }
-    match fs::open(rt, list) {
-        Ok(input) => check_lines(rt, out, list, input),
-        Err(error) => {
-            complain(rt, list, &error)?;
-            Ok(false)
+
+    // Holds files to the lines of a list. Answers whether all are as they were.
+    fn check_lines<R: Read + Drop>(&mut self, list: &str, input: R) -> anyhow::Result<bool> {
+        let heap = self.rt.alloc();
+        let mut all = true;
+        // Counted by hand: a `zip` with numbers would need a flag beside it to tell an empty list.
+        let mut number = 0u64;
+        for line in BufReader::new(heap, input)?.lines(heap) {
+            number = number.saturating_add(1);
+            all &= match self.check_line(line?.as_str()) {
+                Ok(same) => same,
+                Err(error) => {
+                    eprintln!(self.rt; "digest: {list}: line {number}: {error}")?;
+                    false
+                }
+            };
+        }
+        if number == 0 {
+            eprintln!(self.rt; "digest: {list}: an empty list")?;
+            all = false;
+        }
+        Ok(all)
+    }
+
+    // The same of a list by its name.
+    pub(crate) fn check_list(&mut self, list: &str) -> anyhow::Result<bool> {
+        if list == STDIN {
+            return self.check_lines(list, self.rt.stdin());
+        }
+        match fs::open(self.rt, list) {
+            Ok(input) => self.check_lines(list, input),
+            Err(error) => {
+                self.complain(list, &error)?;
+                Ok(false)
+            }
         }
     }
 }

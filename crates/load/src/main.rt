@@ -5,14 +5,17 @@ mod run;
 mod work;
 mod works;
 
-use anyhow::anyhow;
+use anyhow::{anyhow, bail};
+use cli::EngineName;
+use digits::Hex;
 use duplex::Engine;
 use link::{Kind, ReceivingEnd, SendingEnd};
 use plain::Plain;
 use postponed::Postponed;
-use run::{Task, perform};
+use run::{Load, Task};
 use session::Session;
 use std::env::{self, Args};
+use std::io;
 use std::process::ExitCode;
 use wording::kind_byte;
 use words::Packed;
@@ -37,30 +40,21 @@ sizes prints for each engine the bytes of its value, of a session, and of either
 
 // The word after WORK, as a number of bytes.
 fn read_size(args: &mut Args) -> anyhow::Result<usize> {
-    let Some(word) = args.next() else {
-        return Err(anyhow!("no SIZE; try --help"));
-    };
-    match word.parse::<usize>() {
-        Ok(size) => Ok(size),
-        Err(_) => Err(anyhow!("SIZE is no number; try --help")),
-    }
+    let word = args.next().ok_or_else(|| anyhow!("no SIZE; try --help"))?;
+    word.parse()
+        .map_err(|_| anyhow!("SIZE is no number; try --help"))
 }
 
 // The word after WORK, as a kind.
 fn read_kind(args: &mut Args) -> anyhow::Result<Kind> {
-    let Some(word) = args.next() else {
-        return Err(anyhow!("no KIND; try --help"));
-    };
-    match kind_byte(word.as_bytes()) {
-        Some(byte) => Kind::of(byte).ok_or(anyhow!("no such KIND; try --help")),
-        None => Err(anyhow!("no such KIND; try --help")),
-    }
+    let word = args.next().ok_or_else(|| anyhow!("no KIND; try --help"))?;
+    kind_byte(word.as_bytes())
+        .and_then(|byte| Kind::try_from(byte).ok())
+        .ok_or_else(|| anyhow!("no such KIND; try --help"))
 }
 
 fn read_task(args: &mut Args) -> anyhow::Result<Task> {
-    let Some(name) = args.next() else {
-        return Err(anyhow!("no WORK; try --help"));
-    };
+    let name = args.next().ok_or_else(|| anyhow!("no WORK; try --help"))?;
     match name.as_str() {
         "step" => Ok(Task::Step),
         "digest" => Ok(Task::Digest(read_size(args)?)),
@@ -68,88 +62,75 @@ fn read_task(args: &mut Args) -> anyhow::Result<Task> {
         "seal" => Ok(Task::Seal(read_size(args)?)),
         "write" => Ok(Task::Write(read_kind(args)?)),
         "take" => Ok(Task::Take(read_kind(args)?)),
-        _ => Err(anyhow!("no such WORK; try --help")),
+        _ => bail!("no such WORK; try --help"),
     }
 }
 
-fn load<E: Engine>(rt: &HostRuntime, mut args: Args) -> anyhow::Result<()> {
+fn load(rt: &HostRuntime, engine: EngineName, mut args: Args) -> anyhow::Result<()> {
     let task = read_task(&mut args)?;
     let (Some(count), None) = (args.next(), args.next()) else {
-        return Err(anyhow!("one COUNT comes last; try --help"));
+        bail!("one COUNT comes last; try --help");
     };
-    let Ok(count) = count.parse::<u32>() else {
-        return Err(anyhow!("COUNT is no number of 32 bits; try --help"));
+    let count = count
+        .parse::<u32>()
+        .map_err(|_| anyhow!("COUNT is no number of 32 bits; try --help"))?;
+    let load = Load {
+        heap: rt.alloc(),
+        count,
     };
-    let out = perform::<E>(rt.alloc(), task, count)?;
-    for byte in &out[out.len().saturating_sub(32)..] {
-        let byte = *byte;
-        print!(rt; "{byte:02x}")?;
-    }
-    Ok(println!(rt; "")?)
+    // A closure cannot be generic over the engine, and a trait with an impl in each program would be longer than the three arms.
+    let out = match engine {
+        EngineName::Plain => load.perform::<Plain>(task)?,
+        EngineName::Packed => load.perform::<Packed>(task)?,
+        EngineName::Postponed => load.perform::<Postponed>(task)?,
+    };
+    let last = Hex(&out[out.len().saturating_sub(32)..]);
+    Ok(println!(rt; "{last}")?)
 }
 
-fn print_sizes(
-    rt: &HostRuntime,
-    name: &str,
-    value: usize,
-    session: usize,
-    sending: usize,
-    receiving: usize,
-) -> anyhow::Result<()> {
-    Ok(println!(rt;
-        "{name}: engine {value}, session {session}, sending end {sending}, receiving end {receiving}"
-    )?)
+// The bytes of an engine's value, of a session and of either end. A macro, since `size_of` of a type parameter was tried and is not proved.
+macro_rules! sizes {
+    ($engine:ty) => {
+        [
+            size_of::<$engine>(),
+            size_of::<Session<$engine>>(),
+            size_of::<SendingEnd<$engine>>(),
+            size_of::<ReceivingEnd<$engine>>(),
+        ]
+    };
 }
 
-fn print_all_sizes(rt: &HostRuntime) -> anyhow::Result<()> {
-    print_sizes(
-        rt,
-        "plain",
-        size_of::<Plain>(),
-        size_of::<Session<Plain>>(),
-        size_of::<SendingEnd<Plain>>(),
-        size_of::<ReceivingEnd<Plain>>(),
-    )?;
-    print_sizes(
-        rt,
-        "packed",
-        size_of::<Packed>(),
-        size_of::<Session<Packed>>(),
-        size_of::<SendingEnd<Packed>>(),
-        size_of::<ReceivingEnd<Packed>>(),
-    )?;
-    print_sizes(
-        rt,
-        "postponed",
-        size_of::<Postponed>(),
-        size_of::<Session<Postponed>>(),
-        size_of::<SendingEnd<Postponed>>(),
-        size_of::<ReceivingEnd<Postponed>>(),
+fn print_sizes(rt: &HostRuntime, engine: EngineName, sizes: [usize; 4]) -> io::Result<()> {
+    let [value, session, sending, receiving] = sizes;
+    println!(rt;
+        "{engine}: engine {value}, session {session}, sending end {sending}, receiving end {receiving}"
     )
+}
+
+fn print_all_sizes(rt: &HostRuntime) -> io::Result<()> {
+    print_sizes(rt, EngineName::Plain, sizes!(Plain))?;
+    print_sizes(rt, EngineName::Packed, sizes!(Packed))?;
+    print_sizes(rt, EngineName::Postponed, sizes!(Postponed))
 }
 
 fn start(rt: &HostRuntime) -> anyhow::Result<()> {
     let mut args = env::args(rt)?;
     let _program = args.next();
-    let Some(first) = args.next() else {
-        return Err(anyhow!("no arguments; try --help"));
-    };
+    let first = args
+        .next()
+        .ok_or_else(|| anyhow!("no arguments; try --help"))?;
     match first.as_str() {
         "-h" | "--help" => Ok(println!(rt; "{USAGE}")?),
-        "sizes" => print_all_sizes(rt),
-        "plain" => load::<Plain>(rt, args),
-        "packed" => load::<Packed>(rt, args),
-        "postponed" => load::<Postponed>(rt, args),
-        _ => Err(anyhow!("no such ENGINE; try --help")),
+        "sizes" => Ok(print_all_sizes(rt)?),
+        name => {
+            let engine = name
+                .parse()
+                .map_err(|_| anyhow!("no such ENGINE; try --help"))?;
+            load(rt, engine, args)
+        }
     }
 }
 
 fn main(rt: HostRuntime) -> ExitCode {
-    match start(&rt) {
-        Ok(()) => ExitCode::SUCCESS,
-        Err(error) => {
-            let _ = eprintln!(rt; "load: {error}");
-            ExitCode::FAILURE
-        }
-    }
+    cli::report(&rt, "load", start(&rt))
 }

@@ -1,11 +1,11 @@
 // Which work is done, and on what.
-use crate::work::repeat;
+use crate::work::{Work, repeat};
 use crate::works::{Digesting, Passing, Sealing, Squeezing, Stepping, Writing};
-use anyhow::anyhow;
+use anyhow::ensure;
 use duplex::Engine;
-use link::{Kind, ReceivingEnd, SendingEnd};
+use link::{Kind, LARGEST, OVERHEAD, ReceivingEnd, SendingEnd};
 use session::{Key, Nonce, Session, Tag};
-use std::alloc::{AllocError, Global};
+use std::alloc::Global;
 use std::marker::PhantomData;
 use strings::Duplex;
 
@@ -19,103 +19,91 @@ pub(crate) enum Task {
     Take(Kind),
 }
 
-// How much longer a frame is than its text.
-const OVERHEAD: usize = 21;
-
-// An end has numbers for so many frames.
-const NUMBERS: u32 = 1_000_000;
+const NO_NUMBER: &str = "an end has numbers for 1,000,000 frames";
 
 const KEY: Key = Key { bytes: [1; 16] };
 
 const NONCE: Nonce = Nonce { bytes: [2; 16] };
 
-fn text(heap: Global, size: usize) -> Result<Vec<u8>, AllocError> {
-    vec![in heap; 0x5a; size]
+// Where buffers are made, and how often work is done.
+#[derive(Clone, Copy)]
+pub(crate) struct Load {
+    pub(crate) heap: Global,
+    pub(crate) count: u32,
 }
 
-fn room(heap: Global, size: usize) -> Result<Vec<u8>, AllocError> {
-    vec![in heap; 0; size]
-}
-
-fn step<E: Engine>(heap: Global, count: u32) -> anyhow::Result<Vec<u8>> {
-    let mut work = Stepping {
-        engine: E::new(),
-        word: 0,
-    };
-    repeat(&mut work, &[], &mut [], count);
-    Ok(work.word.to_le_bytes().to_vec(heap)?)
-}
-
-fn digest<E: Engine>(heap: Global, size: usize, count: u32) -> anyhow::Result<Vec<u8>> {
-    let mut work = Digesting {
-        engine: PhantomData::<E>,
-    };
-    let text = text(heap, size)?;
-    let mut out = room(heap, 32)?;
-    repeat(&mut work, text.as_slice(), out.as_mut_slice(), count);
-    Ok(out)
-}
-
-fn squeeze<E: Engine>(heap: Global, size: usize, count: u32) -> anyhow::Result<Vec<u8>> {
-    let mut work = Squeezing {
-        duplex: Duplex::<E>::new(),
-    };
-    let mut out = room(heap, size)?;
-    repeat(&mut work, &[], out.as_mut_slice(), count);
-    Ok(out)
-}
-
-fn seal<E: Engine>(heap: Global, size: usize, count: u32) -> anyhow::Result<Vec<u8>> {
-    let mut work = Sealing {
-        session: Session::<E>::begin(&KEY, &NONCE),
-        tag: Tag { bytes: [0; 16] },
-    };
-    let text = text(heap, size)?;
-    let mut out = room(heap, size)?;
-    repeat(&mut work, text.as_slice(), out.as_mut_slice(), count);
-    Ok(out)
-}
-
-fn write<E: Engine>(heap: Global, kind: Kind, count: u32) -> anyhow::Result<Vec<u8>> {
-    let mut work = Writing {
-        panel: SendingEnd::<E>::begin(&KEY, &NONCE),
-        kind: kind.byte(),
-    };
-    let text = text(heap, kind.text_len())?;
-    let mut out = room(heap, kind.text_len() + OVERHEAD)?;
-    repeat(&mut work, text.as_slice(), out.as_mut_slice(), count);
-    if work.panel.close() != count {
-        return Err(anyhow!("a frame was not written"));
+impl Load {
+    // Does work on a text of so many bytes and a buffer of so many, and gives the buffer.
+    fn done<W: Work>(self, work: &mut W, text: usize, room: usize) -> anyhow::Result<Vec<u8>> {
+        let text = vec![in self.heap; 0x5a; text]?;
+        let mut out = vec![in self.heap; 0; room]?;
+        repeat(work, text.as_slice(), out.as_mut_slice(), self.count);
+        Ok(out)
     }
-    Ok(out)
-}
 
-fn take<E: Engine>(heap: Global, kind: Kind, count: u32) -> anyhow::Result<Vec<u8>> {
-    let mut work = Passing {
-        panel: SendingEnd::<E>::begin(&KEY, &NONCE),
-        head: ReceivingEnd::<E>::begin(&KEY, &NONCE),
-        kind: kind.byte(),
-    };
-    let text = text(heap, kind.text_len())?;
-    let mut out = room(heap, kind.text_len())?;
-    repeat(&mut work, text.as_slice(), out.as_mut_slice(), count);
-    if work.head.close() != count {
-        return Err(anyhow!("a frame was not taken"));
+    fn step<E: Engine>(self) -> anyhow::Result<Vec<u8>> {
+        let mut work = Stepping {
+            engine: E::new(),
+            word: 0,
+        };
+        repeat(&mut work, &[], &mut [], self.count);
+        Ok(work.word.to_le_bytes().to_vec(self.heap)?)
     }
-    Ok(out)
-}
 
-// Does the work so many times, and gives what came of it last.
-pub(crate) fn perform<E: Engine>(heap: Global, task: Task, count: u32) -> anyhow::Result<Vec<u8>> {
-    match task {
-        Task::Step => step::<E>(heap, count),
-        Task::Digest(size) => digest::<E>(heap, size, count),
-        Task::Squeeze(size) => squeeze::<E>(heap, size, count),
-        Task::Seal(size) => seal::<E>(heap, size, count),
-        Task::Write(_) | Task::Take(_) if count > NUMBERS => {
-            Err(anyhow!("an end has numbers for 1,000,000 frames"))
+    fn digest<E: Engine>(self, size: usize) -> anyhow::Result<Vec<u8>> {
+        let mut work = Digesting {
+            engine: PhantomData::<E>,
+        };
+        self.done(&mut work, size, 32)
+    }
+
+    fn squeeze<E: Engine>(self, size: usize) -> anyhow::Result<Vec<u8>> {
+        let mut work = Squeezing {
+            duplex: Duplex::<E>::new(),
+        };
+        self.done(&mut work, 0, size)
+    }
+
+    fn seal<E: Engine>(self, size: usize) -> anyhow::Result<Vec<u8>> {
+        let mut work = Sealing {
+            session: Session::<E>::begin(&KEY, &NONCE),
+            tag: Tag { bytes: [0; 16] },
+        };
+        self.done(&mut work, size, size)
+    }
+
+    fn write<E: Engine>(self, kind: Kind) -> anyhow::Result<Vec<u8>> {
+        ensure!(self.count <= LARGEST, NO_NUMBER);
+        let mut work = Writing {
+            panel: SendingEnd::<E>::begin(&KEY, &NONCE),
+            kind,
+        };
+        let out = self.done(&mut work, kind.text_len(), kind.text_len() + OVERHEAD)?;
+        ensure!(work.panel.close() == self.count, "a frame was not written");
+        Ok(out)
+    }
+
+    fn take<E: Engine>(self, kind: Kind) -> anyhow::Result<Vec<u8>> {
+        ensure!(self.count <= LARGEST, NO_NUMBER);
+        let mut work = Passing {
+            panel: SendingEnd::<E>::begin(&KEY, &NONCE),
+            head: ReceivingEnd::<E>::begin(&KEY, &NONCE),
+            kind,
+        };
+        let out = self.done(&mut work, kind.text_len(), kind.text_len())?;
+        ensure!(work.head.close() == self.count, "a frame was not taken");
+        Ok(out)
+    }
+
+    // Does a task, and gives what came of it last.
+    pub(crate) fn perform<E: Engine>(self, task: Task) -> anyhow::Result<Vec<u8>> {
+        match task {
+            Task::Step => self.step::<E>(),
+            Task::Digest(size) => self.digest::<E>(size),
+            Task::Squeeze(size) => self.squeeze::<E>(size),
+            Task::Seal(size) => self.seal::<E>(size),
+            Task::Write(kind) => self.write::<E>(kind),
+            Task::Take(kind) => self.take::<E>(kind),
         }
-        Task::Write(kind) => write::<E>(heap, kind, count),
-        Task::Take(kind) => take::<E>(heap, kind, count),
     }
 }

@@ -5,18 +5,19 @@ ghost use Rattle.duplex.specs.Strings.{squeezed, drained};
 ghost use Rattle.digests.specs.Digests.{digested};
 ghost use Rattle.session.specs.Calls.{session_bits, seal_answer, seal_bits, seal_out, seal_tag};
 ghost use Rattle.link.specs.Calls.{sending, receiving, write_answer, write_standing, write_out};
+ghost use Rattle.link.specs.Kinds.{kind_byte};
 ghost use Rattle.load.specs.Turns.{sent, Took};
 
 use crate::work::Work;
 use digests::{Entry, digest};
 use duplex::Engine;
-use link::{ReceivingEnd, SendingEnd};
+use link::{Kind, OVERHEAD, ReceivingEnd, SendingEnd};
 use session::{Session, Tag};
 use std::marker::PhantomData;
 use strings::Duplex;
 
-// The longest frame.
-const LONGEST: usize = 53;
+// The bytes of the longest frame, of a text of 32.
+const LONGEST: usize = 32 + OVERHEAD;
 
 // A step with the last reading as a full block, and a reading.
 #[derive(Drop)]
@@ -85,14 +86,14 @@ impl<E: Engine> Work for Sealing<E> {
 #[derive(Drop)]
 pub(crate) struct Writing<E> {
     pub(crate) panel: SendingEnd<E>,
-    pub(crate) kind: u8,
+    pub(crate) kind: Kind,
 }
 
 impl<E: Engine> Work for Writing<E> {
-    ghost turned = { λ text a b. (sending E.Engine.bits b.0.panel ≡ write_standing (sending E.Engine.bits a.0.panel) a.0.kind text (length a.1)) × (b.0.kind ≡ a.0.kind) × (b.1 ≡ write_out (sending E.Engine.bits a.0.panel) a.0.kind text a.1) };
+    ghost turned = { λ text a b. (sending E.Engine.bits b.0.panel ≡ write_standing (sending E.Engine.bits a.0.panel) (kind_byte a.0.kind) text (length a.1)) × (b.0.kind ≡ a.0.kind) × (b.1 ≡ write_out (sending E.Engine.bits a.0.panel) (kind_byte a.0.kind) text a.1) };
 
     fn turn(&mut self, text: &[u8], out: &mut [u8]) {
-        let _ = self.panel.write(self.kind, text, out);
+        let _ = self.panel.write(self.kind.into(), text, out);
     }
 }
 
@@ -101,15 +102,15 @@ impl<E: Engine> Work for Writing<E> {
 pub(crate) struct Passing<E> {
     pub(crate) panel: SendingEnd<E>,
     pub(crate) head: ReceivingEnd<E>,
-    pub(crate) kind: u8,
+    pub(crate) kind: Kind,
 }
 
 impl<E: Engine> Work for Passing<E> {
-    ghost turned = { λ text a b. (sending E.Engine.bits b.0.panel ≡ write_standing (sending E.Engine.bits a.0.panel) a.0.kind text 53) × (b.0.kind ≡ a.0.kind) × Took (receiving E.Engine.bits a.0.head) (sent (write_answer (sending E.Engine.bits a.0.panel) a.0.kind text 53) (write_out (sending E.Engine.bits a.0.panel) a.0.kind text (replicate 53 0))) a.1 (receiving E.Engine.bits b.0.head) b.1 };
+    ghost turned = { λ text a b. (sending E.Engine.bits b.0.panel ≡ write_standing (sending E.Engine.bits a.0.panel) (kind_byte a.0.kind) text 53) × (b.0.kind ≡ a.0.kind) × Took (receiving E.Engine.bits a.0.head) (sent (write_answer (sending E.Engine.bits a.0.panel) (kind_byte a.0.kind) text 53) (write_out (sending E.Engine.bits a.0.panel) (kind_byte a.0.kind) text (replicate 53 0))) a.1 (receiving E.Engine.bits b.0.head) b.1 };
 
     fn turn(&mut self, text: &[u8], out: &mut [u8]) {
         let mut frame = [0; LONGEST];
-        if let Ok((length, _number)) = self.panel.write(self.kind, text, &mut frame) {
+        if let Ok((length, _number)) = self.panel.write(self.kind.into(), text, &mut frame) {
             let _ = self.head.take(&frame[0..length], out);
         }
     }

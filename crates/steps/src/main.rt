@@ -5,7 +5,8 @@ ghost use Rattle.std.specs.Prelude.{◌≡◌};
 ghost use Rattle.duplex.specs.State.{zeros};
 ghost use Rattle.steps.specs.Chains.{chained};
 
-use anyhow::anyhow;
+use anyhow::{anyhow, bail};
+use cli::EngineName;
 use duplex::Engine;
 use plain::Plain;
 use postponed::Postponed;
@@ -32,17 +33,16 @@ fn start(rt: &HostRuntime) -> anyhow::Result<()> {
     let mut args = env::args(rt)?;
     let _program = args.next();
     let (Some(engine), Some(count), None) = (args.next(), args.next(), args.next()) else {
-        return Err(anyhow!(USAGE));
+        bail!(USAGE);
     };
     let count = count.parse::<u32>()?;
-    let word = match engine.as_str() {
-        "plain" => chain::<Plain>(count),
-        "packed" => chain::<Packed>(count),
-        "postponed" => chain::<Postponed>(count),
-        _ => return Err(anyhow!(USAGE)),
+    // A closure cannot be generic over the engine, and a trait with an impl in each program would be longer than the three arms.
+    let word = match engine.parse().map_err(|_| anyhow!(USAGE))? {
+        EngineName::Plain => chain::<Plain>(count),
+        EngineName::Packed => chain::<Packed>(count),
+        EngineName::Postponed => chain::<Postponed>(count),
     };
-    println!(rt; "{word}")?;
-    Ok(())
+    Ok(println!(rt; "{word}")?)
 }
 
 fn main(rt: HostRuntime) -> anyhow::Result<()> {

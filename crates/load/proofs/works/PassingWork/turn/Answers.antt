@@ -1,8 +1,9 @@
 -- What was written is taken, and where nothing was written nothing changes.
-use Rattle.std.proofs.Common.{◌≡◌, ℕ, ◌-◌, List, length, take, Some, Ok, Err, Option, Result, sym, refl, ap, ◌∙◌, subst, ap₂, arith}
+use Rattle.std.proofs.Common.{◌≡◌, ℕ, ◌-◌, List, length, take, replicate, Some, Ok, Err, Option, Result, sym, refl, ap, ◌∙◌, subst, ap₂, arith}
 use Rattle.link.specs.declared.fault.LinkFault.{LinkFault}
 use Rattle.link.specs.Frames.{Standing}
-use Rattle.link.specs.Calls.{Checked, take_answer, take_standing, take_text}
+use Rattle.link.specs.declared.kind.Kind.{Kind}
+use Rattle.link.specs.Calls.{Checked, write_answer, write_standing, write_out, take_answer, take_standing, take_text}
 use Rattle.load.specs.Turns.{sent, Took}
 use Rattle.load.proofs.works.PassingWork.turn.Goals as goal
 
@@ -18,9 +19,14 @@ kept : (m : Standing) (text out : List ℕ) (answer : Result (ℕ × ℕ) LinkFa
 kept m text out answer e ea =
     let P : Option (List ℕ) → Type 0 = λ f. Took m f text m text in subst P (sym (ap (λ a. sent a out) ea)) (refl, refl)
 
+-- what a turn makes of both ends and the buffer, where the kind's byte is b
+abbrev Passed : (panel panel' head head' : Standing) (text out out' : List ℕ) (kind kind' : Kind) → ℕ → Type 0
+Passed panel panel' head head' text out out' kind kind' b =
+    (panel' ≡ write_standing panel b text 53) × (kind' ≡ kind) × Took head (sent (write_answer panel b text 53) (write_out panel b text (replicate 53 0))) out head' out'
+
 pub returns-in-Ok : goal.returns-in-Ok
 returns-in-Ok g c =
-    (c.write.ensures.moved, refl, took _ _ _ _ _ _ _ _ _ _ (sym c.write.ensures.value ∙ c.in-Ok.is) c.write.ensures.out c.take.ensures.value c.take.ensures.moved c.take.ensures.text)
+    subst (Passed _ _ _ _ _ _ _ _ _) c.into.ensures (c.write.ensures.moved, refl, took _ _ _ _ _ _ _ _ _ _ (sym c.write.ensures.value ∙ c.in-Ok.is) c.write.ensures.out c.take.ensures.value c.take.ensures.moved c.take.ensures.text)
 
 pub returns-in_default : goal.returns-in_default
-returns-in_default g c = (c.write.ensures.moved, refl, kept _ _ _ _ _ (sym c.write.ensures.value ∙ c.in_default.is))
+returns-in_default g c = subst (Passed _ _ _ _ _ _ _ _ _) c.into.ensures (c.write.ensures.moved, refl, kept _ _ _ _ _ (sym c.write.ensures.value ∙ c.in_default.is))

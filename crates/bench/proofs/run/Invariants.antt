@@ -1,6 +1,0 @@
--- The chunk keeps its length.
-use Rattle.std.proofs.Common.{◌≡◌, length}
-use Rattle.bench.proofs.run.Given as goal
-
-abbrev pub invariant-loop : goal.invariant-loop
-invariant-loop g l = length l.chunk ≡ 4096
