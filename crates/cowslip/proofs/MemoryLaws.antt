@@ -1,6 +1,7 @@
 -- Memory that a state fills to the end.
 use Rattle.std.proofs.Common.{◌≡◌, ℕ, ◌-◌, ◌≤◌, cond, List, [], ◌∷◌, ◌++◌, length, get_or, take, drop, Ok, Err, sym, refl, ap, ◌∙◌, ap₂, append-nil, arith, length-append, length-drop}
 use borrow.Rule.Slice.PartMut.{put_mid}
+use Rattle.std.proofs.Math.ListN.{set}
 use Rattle.std.proofs.lemmas.List.FromFn.{length-map-range_with_len}
 use Rattle.std.proofs.lemmas.List.{drop_all, take_all, take-append-le, get_or-append_right}
 use Rattle.std.proofs.lemmas.Bool.{eq-eqb, le-ltb}
@@ -9,6 +10,11 @@ use Rattle.duplex.specs.Strings.{word_bytes}
 use Rattle.link.specs.Frames.{Standing, largest_number}
 use Rattle.cowslip.specs.declared.fault.CallFault.TheVariants.{Memory}
 use Rattle.cowslip.specs.Memory.{session_mark, kept_session, kept_end, bits_in, session_in, number_at, with_number, end_in}
+
+-- a mark, and bytes behind it
+pub marked : (mark : ℕ) (bytes old : List ℕ) → 1 ≤ length old → put_mid 1 33 (set old 0 mark) bytes ≡ mark ∷ (bytes ++ drop 34 old)
+marked mark bytes [] h = absurd (omega arith)
+marked mark bytes (x ∷ old) h = refl
 
 pub filled : (mark n : ℕ) (bytes old : List ℕ) → length old ≤ n → mark ∷ (bytes ++ drop n old) ≡ mark ∷ bytes
 filled mark n bytes old h = ap (λ r. mark ∷ (bytes ++ r)) (drop_all n old h) ∙ ap (◌∷◌ mark) (append-nil bytes)

@@ -1,9 +1,8 @@
 -- What the calls from C promise: the number returned, the numbers told, and every byte of the memory and of the buffers.
-use Rattle.std.specs.Prelude.{ℕ, List, length, Ok, Err, Result, slice_set}
+use Rattle.std.specs.Prelude.{◌≡◌, ℕ, List, length, Ok, Err, Result, slice_set}
+use Rattle.std.specs.Result.{result_map_both}
 use Rattle.session.specs.declared.fault.SessionFault.{SessionFault}
 use Rattle.session.specs.declared.fault.SessionFault.TheVariants.{Short, Tag}
-use Rattle.session.specs.declared.values.Key.{Key}
-use Rattle.session.specs.declared.values.Nonce.{Nonce}
 use Rattle.session.specs.Calls.{seal_answer, seal_bits, seal_out, seal_tag, open_answer, open_bits, open_out}
 use Rattle.link.specs.declared.kind.Kind.{Kind}
 use Rattle.link.specs.declared.fault.LinkFault.{LinkFault}
@@ -34,22 +33,32 @@ numbers_told (Ok (One n)) old = slice_set old 0 n
 numbers_told (Ok (Two n m)) old = slice_set (slice_set old 0 n) 1 m
 numbers_told (Err e) old = slice_set old 0 (told e).place
 
+-- a call returns and tells its outcome
+abbrev pub Reports : Outcome → ℕ → List ℕ → List ℕ → Type 0
+Reports outcome returned old new = (returned ≡ status outcome) × (new ≡ numbers_told outcome old)
+
 -- a buffer where an outcome is good, and where it is not
 abbrev pub by_outcome : {A E : Type 0} → Result A E → List ℕ → List ℕ → List ℕ
 by_outcome (Ok a) new old = new
 by_outcome (Err e) new old = old
 
+-- The outcome of a call, and a buffer after it, by what the call finds in its memory: a refused call leaves buffers alone.
+
+abbrev pub outcome_with : {A : Type 0} → Result A CallFault → (A → Outcome) → Outcome
+outcome_with (Ok x) f = f x
+outcome_with (Err e) f = Err e
+
+abbrev pub buffer_with : {A : Type 0} → Result A CallFault → (A → List ℕ) → List ℕ → List ℕ
+buffer_with (Ok x) f old = f x
+buffer_with (Err e) f old = old
+
 -- Beginning: a key and a nonce of 16 bytes each, and memory of a size.
-abbrev pub begin_outcome : List ℕ → List ℕ → ℕ → ℕ → Outcome
-begin_outcome key nonce size room = sized 0 16 (length key) (sized 1 16 (length nonce) (sized 2 size room (Ok Nothing)))
 
--- the values of a beginning, or why it is refused
-abbrev pub values_found : Result (Key × Nonce) CallFault → Result (List ℕ × List ℕ) CallFault
-values_found (Ok p) = Ok (p.0.bytes, p.1.bytes)
-values_found (Err e) = Err e
+abbrev pub begin_outcome : ℕ → List ℕ → List ℕ → List ℕ → Outcome
+begin_outcome size key nonce memory = sized 0 16 (length key) (sized 1 16 (length nonce) (sized 2 size (length memory) (Ok Nothing)))
 
-abbrev pub begin_values : List ℕ → List ℕ → ℕ → ℕ → Result (List ℕ × List ℕ) CallFault
-begin_values key nonce size room = sized 0 16 (length key) (sized 1 16 (length nonce) (sized 2 size room (Ok (key, nonce))))
+abbrev pub begin_memory : ℕ → List ℕ → List ℕ → List ℕ → List ℕ → List ℕ
+begin_memory size key nonce kept memory = by_outcome (begin_outcome size key nonce memory) kept memory
 
 -- Sessions. The bits that a call finds: the memory is its first argument, and the tag is one of the others.
 
@@ -57,28 +66,27 @@ abbrev pub session_for : List ℕ → ℕ → ℕ → Result (List ℕ) CallFaul
 session_for memory argument tag = sized 0 session_size (length memory) (sized argument 16 tag (session_in memory))
 
 abbrev pub of_session : Result ℕ SessionFault → Outcome
-of_session (Ok n) = Ok (One n)
-of_session (Err e) = Err (Session e)
+of_session = result_map_both One Session
 
-abbrev pub seal_outcome : Result (List ℕ) CallFault → List ℕ → ℕ → Outcome
-seal_outcome (Ok s) text room = of_session (seal_answer text room)
-seal_outcome (Err e) text room = Err e
+-- sealing, with room for so many bytes of ciphertext and of tag
 
-abbrev pub seal_memory : Result (List ℕ) CallFault → List ℕ → List ℕ → ℕ → List ℕ → List ℕ
-seal_memory (Ok s) ad text room old = by_outcome (seal_answer text room) (kept_session (seal_bits s ad text (seal_answer text room))) old
-seal_memory (Err e) ad text room old = old
+abbrev pub seal_outcome : List ℕ → List ℕ → ℕ → ℕ → Outcome
+seal_outcome memory text room tag = outcome_with (session_for memory 4 tag) (λ s. of_session (seal_answer text room))
 
-abbrev pub seal_buffer : Result (List ℕ) CallFault → List ℕ → List ℕ → List ℕ → List ℕ
-seal_buffer (Ok s) ad text old = seal_out s ad text old (seal_answer text (length old))
-seal_buffer (Err e) ad text old = old
+abbrev pub seal_memory : List ℕ → List ℕ → List ℕ → ℕ → ℕ → List ℕ
+seal_memory memory ad text room tag =
+    buffer_with (session_for memory 4 tag) (λ s. by_outcome (seal_answer text room) (kept_session (seal_bits s ad text (seal_answer text room))) memory) memory
 
-abbrev pub seal_tag_bytes : Result (List ℕ) CallFault → List ℕ → List ℕ → ℕ → List ℕ → List ℕ
-seal_tag_bytes (Ok s) ad text room old = seal_tag s ad text old (seal_answer text room)
-seal_tag_bytes (Err e) ad text room old = old
+abbrev pub seal_buffer : List ℕ → List ℕ → List ℕ → List ℕ → ℕ → List ℕ
+seal_buffer memory ad text old tag = buffer_with (session_for memory 4 tag) (λ s. seal_out s ad text old (seal_answer text (length old))) old
 
-abbrev pub open_outcome : Result (List ℕ) CallFault → List ℕ → List ℕ → List ℕ → ℕ → Outcome
-open_outcome (Ok s) ad c tag room = of_session (open_answer s ad c tag room)
-open_outcome (Err e) ad c tag room = Err e
+abbrev pub seal_tag_bytes : List ℕ → List ℕ → List ℕ → ℕ → List ℕ → List ℕ
+seal_tag_bytes memory ad text room old = buffer_with (session_for memory 4 (length old)) (λ s. seal_tag s ad text old (seal_answer text room)) old
+
+-- opening a ciphertext c and a tag, with room for so many bytes of text
+
+abbrev pub open_outcome : List ℕ → List ℕ → List ℕ → List ℕ → ℕ → Outcome
+open_outcome memory ad c tag room = outcome_with (session_for memory 3 (length tag)) (λ s. of_session (open_answer s ad c tag room))
 
 -- a session that is short of room has not moved, and its memory is left alone
 abbrev pub kept_opened : List ℕ → List ℕ → List ℕ → Result ℕ SessionFault → List ℕ → List ℕ
@@ -86,56 +94,50 @@ kept_opened s ad c (Ok n) old = kept_session (open_bits s ad c (Ok n))
 kept_opened s ad c (Err (Tag n)) old = kept_session (open_bits s ad c (Err (Tag n)))
 kept_opened s ad c (Err (Short n)) old = old
 
-abbrev pub open_memory : Result (List ℕ) CallFault → List ℕ → List ℕ → List ℕ → ℕ → List ℕ → List ℕ
-open_memory (Ok s) ad c tag room old = kept_opened s ad c (open_answer s ad c tag room) old
-open_memory (Err e) ad c tag room old = old
+abbrev pub open_memory : List ℕ → List ℕ → List ℕ → List ℕ → ℕ → List ℕ
+open_memory memory ad c tag room = buffer_with (session_for memory 3 (length tag)) (λ s. kept_opened s ad c (open_answer s ad c tag room) memory) memory
 
-abbrev pub open_buffer : Result (List ℕ) CallFault → List ℕ → List ℕ → List ℕ → List ℕ → List ℕ
-open_buffer (Ok s) ad c tag old = open_out s ad c old (open_answer s ad c tag (length old))
-open_buffer (Err e) ad c tag old = old
+abbrev pub open_buffer : List ℕ → List ℕ → List ℕ → List ℕ → List ℕ → List ℕ
+open_buffer memory ad c tag old = buffer_with (session_for memory 3 (length tag)) (λ s. open_out s ad c old (open_answer s ad c tag (length old))) old
 
--- Ends. Where the end stands that a call finds; a refused call leaves the memory alone.
+-- Ends. Where the end stands that a call finds.
 
 abbrev pub end_for : ℕ → List ℕ → Result Standing CallFault
 end_for mark memory = sized 0 end_size (length memory) (end_in mark memory)
 
+abbrev pub tell_outcome : ℕ → List ℕ → Outcome
+tell_outcome mark memory = outcome_with (end_for mark memory) (λ m. Ok (One m.number))
+
+-- writing a text t of the kind with byte b, with room for so many bytes of frame
+
 abbrev pub of_writing : Result (ℕ × ℕ) LinkFault → Outcome
-of_writing (Ok p) = Ok (Two p.0 p.1)
-of_writing (Err e) = Err (Link e)
+of_writing = result_map_both (λ p. Two p.0 p.1) Link
 
-abbrev pub write_outcome : Result Standing CallFault → ℕ → List ℕ → ℕ → Outcome
-write_outcome (Ok m) b t room = of_writing (write_answer m b t room)
-write_outcome (Err e) b t room = Err e
+abbrev pub write_outcome : List ℕ → ℕ → List ℕ → ℕ → Outcome
+write_outcome memory b t room = outcome_with (end_for sender_mark memory) (λ m. of_writing (write_answer m b t room))
 
-abbrev pub write_memory : Result Standing CallFault → ℕ → List ℕ → ℕ → List ℕ → List ℕ
-write_memory (Ok m) b t room old = by_outcome (write_answer m b t room) (kept_end sender_mark (write_standing m b t room)) old
-write_memory (Err e) b t room old = old
+abbrev pub write_memory : List ℕ → ℕ → List ℕ → ℕ → List ℕ
+write_memory memory b t room =
+    buffer_with (end_for sender_mark memory) (λ m. by_outcome (write_answer m b t room) (kept_end sender_mark (write_standing m b t room)) memory) memory
 
-abbrev pub write_buffer : Result Standing CallFault → ℕ → List ℕ → List ℕ → List ℕ
-write_buffer (Ok m) b t old = write_out m b t old
-write_buffer (Err e) b t old = old
+abbrev pub write_buffer : List ℕ → ℕ → List ℕ → List ℕ → List ℕ
+write_buffer memory b t old = buffer_with (end_for sender_mark memory) (λ m. write_out m b t old) old
+
+-- taking a frame f, with room for so many bytes of text
 
 abbrev pub of_taking : Result Kind LinkFault → Outcome
-of_taking (Ok k) = Ok (One (kind_byte k))
-of_taking (Err e) = Err (Link e)
+of_taking = result_map_both (λ k. One (kind_byte k)) Link
 
-abbrev pub take_outcome : Result Standing CallFault → List ℕ → ℕ → Outcome
-take_outcome (Ok m) f room = of_taking (take_answer m f room)
-take_outcome (Err e) f room = Err e
+abbrev pub take_outcome : List ℕ → List ℕ → ℕ → Outcome
+take_outcome memory f room = outcome_with (end_for receiver_mark memory) (λ m. of_taking (take_answer m f room))
 
-abbrev pub take_memory : Result Standing CallFault → List ℕ → ℕ → List ℕ → List ℕ
-take_memory (Ok m) f room old = by_outcome (take_answer m f room) (kept_end receiver_mark (take_standing m f (take_answer m f room))) old
-take_memory (Err e) f room old = old
+abbrev pub take_memory : List ℕ → List ℕ → ℕ → List ℕ
+take_memory memory f room =
+    buffer_with (end_for receiver_mark memory) (λ m. by_outcome (take_answer m f room) (kept_end receiver_mark (take_standing m f (take_answer m f room))) memory) memory
 
-abbrev pub take_buffer : Result Standing CallFault → List ℕ → List ℕ → List ℕ
-take_buffer (Ok m) f old = take_text m f old (take_answer m f (length old))
-take_buffer (Err e) f old = old
-
-abbrev pub tell_outcome : Result Standing CallFault → Outcome
-tell_outcome (Ok m) = Ok (One m.number)
-tell_outcome (Err e) = Err e
+abbrev pub take_buffer : List ℕ → List ℕ → List ℕ → List ℕ
+take_buffer memory f old = buffer_with (end_for receiver_mark memory) (λ m. take_text m f old (take_answer m f (length old))) old
 
 -- Digest and deck.
 abbrev pub of_entries : Result (Unit {0}) EntryFault → Outcome
-of_entries (Ok u) = Ok Nothing
-of_entries (Err e) = Err (Entries e)
+of_entries = result_map_both (λ u. Nothing) Entries

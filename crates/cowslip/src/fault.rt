@@ -1,5 +1,6 @@
 // Why a call from C is refused.
 ghost use Rattle.std.specs.Prelude.{◌≡◌};
+ghost use Rattle.cowslip.specs.declared.fault.CallFault.TheVariants.{Session as InSession, Link as InLink, Entries as InEntries};
 ghost use Rattle.cowslip.specs.Refusals.{told, without_layer};
 
 use digests::EntryFault;
@@ -7,7 +8,7 @@ use link::LinkFault;
 use refusals::Refusal;
 use session::SessionFault;
 
-#[derive(Clone, Copy)]
+#[derive(Clone, Copy, Debug, PartialEq, Eq)]
 pub enum CallFault {
     // a slice of fixed length has another length; which argument it is, from 0
     Length { argument: usize },
@@ -18,29 +19,55 @@ pub enum CallFault {
     Entries(EntryFault),
 }
 
-// What C is told of a refusal: the number that a call returns, and a place.
-#[derive(Clone, Copy)]
+impl From<SessionFault> for CallFault {
+    ghost from_gives = { λ fault r. r ≡ InSession fault };
+
+    fn from(fault: SessionFault) -> CallFault {
+        CallFault::Session(fault)
+    }
+}
+
+impl From<LinkFault> for CallFault {
+    ghost from_gives = { λ fault r. r ≡ InLink fault };
+
+    fn from(fault: LinkFault) -> CallFault {
+        CallFault::Link(fault)
+    }
+}
+
+impl From<EntryFault> for CallFault {
+    ghost from_gives = { λ fault r. r ≡ InEntries fault };
+
+    fn from(fault: EntryFault) -> CallFault {
+        CallFault::Entries(fault)
+    }
+}
+
+// What C is told of a refusal: the number that a call returns, and a place. C takes numbers; the fault is the enum above.
+#[derive(Clone, Copy, Debug, PartialEq, Eq)]
 pub struct Told {
     pub number: u8,
     pub place: usize,
 }
 
 // A refusal of another layer, without its layer.
-fn without_layer(refusal: Refusal) -> Told
-    ensures { result ≡ without_layer refusal }
-{
-    Told {
-        number: refusal.number,
-        place: refusal.place,
+impl From<Refusal> for Told {
+    ghost from_gives = { λ refusal r. r ≡ without_layer refusal };
+
+    fn from(refusal: Refusal) -> Told {
+        Told {
+            number: refusal.number,
+            place: refusal.place,
+        }
     }
 }
 
-impl CallFault {
-    // The refusal's number and place.
-    pub fn told(self) -> Told
-        ensures { result ≡ told self }
-    {
-        match self {
+// The refusal's number and place.
+impl From<CallFault> for Told {
+    ghost from_gives = { λ fault r. r ≡ told fault };
+
+    fn from(fault: CallFault) -> Told {
+        match fault {
             CallFault::Length { argument } => Told {
                 number: 30,
                 place: argument,
@@ -49,9 +76,9 @@ impl CallFault {
                 number: 31,
                 place: 0,
             },
-            CallFault::Session(fault) => without_layer(fault.refusal()),
-            CallFault::Link(fault) => without_layer(fault.refusal()),
-            CallFault::Entries(fault) => without_layer(fault.refusal()),
+            CallFault::Session(fault) => Told::from(Refusal::from(fault)),
+            CallFault::Link(fault) => Told::from(Refusal::from(fault)),
+            CallFault::Entries(fault) => Told::from(Refusal::from(fault)),
         }
     }
 }

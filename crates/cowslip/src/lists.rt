@@ -3,7 +3,7 @@ ghost use Rattle.std.specs.Prelude.{◌≡◌, length};
 ghost use Rattle.digests.specs.Digests.{digested, decked};
 ghost use Rattle.digests.specs.Entries.{outside, answered, cuts};
 ghost use Rattle.digests.specs.declared.entries.EntryFault.TheVariants.{Digest, Deck};
-ghost use Rattle.cowslip.specs.Calls.{status, numbers_told, by_outcome, of_entries};
+ghost use Rattle.cowslip.specs.Calls.{Reports, by_outcome, of_entries};
 
 use crate::fault::CallFault;
 use crate::report::{Answer, report};
@@ -18,12 +18,10 @@ pub extern "C" fn cowslip_digest(
     out: &mut [u8],
     numbers: &mut [usize],
 ) -> u32
-    ensures status { result ≡ status (of_entries (answered Digest (outside 0 (length buffer.now) entries.now))) }
-    ensures told { numbers.new ≡ numbers_told (of_entries (answered Digest (outside 0 (length buffer.now) entries.now))) numbers.old }
+    ensures answer { Reports (of_entries (answered Digest (outside 0 (length buffer.now) entries.now))) result numbers.old numbers.new }
     ensures out { out.new ≡ by_outcome (answered Digest (outside 0 (length buffer.now) entries.now)) (digested (cuts buffer.now entries.now) (length out.old)) out.old }
 {
-    let answer = digest::<Postponed>(buffer, entries, out);
-    report(outcome(answer), numbers)
+    report(filled(digest::<Postponed>(buffer, entries, out)), numbers)
 }
 
 // Fills `out` with what the deck function gives for a key and the strings that the entries cut out of the buffer.
@@ -35,19 +33,19 @@ pub extern "C" fn cowslip_deck(
     out: &mut [u8],
     numbers: &mut [usize],
 ) -> u32
-    ensures status { result ≡ status (of_entries (answered Deck (outside 0 (length buffer.now) entries.now))) }
-    ensures told { numbers.new ≡ numbers_told (of_entries (answered Deck (outside 0 (length buffer.now) entries.now))) numbers.old }
+    ensures answer { Reports (of_entries (answered Deck (outside 0 (length buffer.now) entries.now))) result numbers.old numbers.new }
     ensures out { out.new ≡ by_outcome (answered Deck (outside 0 (length buffer.now) entries.now)) (decked key.now (cuts buffer.now entries.now) (length out.old)) out.old }
 {
-    let answer = deck::<Postponed>(key, buffer, entries, out);
-    report(outcome(answer), numbers)
+    report(
+        filled(deck::<Postponed>(key, buffer, entries, out)),
+        numbers,
+    )
 }
 
-fn outcome(answer: Result<(), EntryFault>) -> Result<Answer, CallFault>
+// The outcome of a call that fills a buffer.
+fn filled(answer: Result<(), EntryFault>) -> Result<Answer, CallFault>
     ensures { result ≡ of_entries answer }
 {
-    match answer {
-        Ok(()) => Ok(Answer::Nothing),
-        Err(fault) => Err(CallFault::Entries(fault)),
-    }
+    answer?;
+    Ok(Answer::Nothing)
 }

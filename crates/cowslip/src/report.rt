@@ -1,18 +1,19 @@
 // How a call answers: a number is returned, and others are written into a lent slice.
 ghost use Rattle.std.specs.Prelude.{◌≡◌, slice_set};
-ghost use Rattle.cowslip.specs.Calls.{status, numbers_told};
+ghost use Rattle.cowslip.specs.Calls.{Reports};
 
-use crate::fault::CallFault;
+use crate::fault::{CallFault, Told};
 
-// The numbers that a call tells where it is not refused.
-#[derive(Clone, Copy)]
+// The numbers that a call tells where it is not refused. Each count has its case, which the contracts name: an array of N numbers would need a parameter N through every call, and gives no shorter code.
+#[derive(Clone, Copy, Debug, PartialEq, Eq)]
 pub enum Answer {
     Nothing,
     One(usize),
     Two(usize, usize),
 }
 
-// Writes a number where there is a place for it.
+// Writes a number where there is a place for it. By an index: after a write through `get_mut` no element is known.
+#[tactic(auto, using(std::proofs::lemmas::List::set_past))]
 fn put(numbers: &mut [usize], place: usize, number: usize)
     ensures { numbers.new ≡ slice_set numbers.old place number }
 {
@@ -23,8 +24,7 @@ fn put(numbers: &mut [usize], place: usize, number: usize)
 
 // Tells the answer's numbers, or the refusal's place; returns 0, or the refusal's number.
 pub(crate) fn report(outcome: Result<Answer, CallFault>, numbers: &mut [usize]) -> u32
-    ensures status { result ≡ status outcome }
-    ensures told { numbers.new ≡ numbers_told outcome numbers.old }
+    ensures { Reports outcome result numbers.old numbers.new }
 {
     match outcome {
         Ok(Answer::Nothing) => 0,
@@ -38,7 +38,7 @@ pub(crate) fn report(outcome: Result<Answer, CallFault>, numbers: &mut [usize]) 
             0
         }
         Err(fault) => {
-            let told = fault.told();
+            let told = Told::from(fault);
             put(numbers, 0, told.place);
             u32::from(told.number)
         }

@@ -1,17 +1,15 @@
 // Sessions for C.
-ghost use Rattle.std.specs.Prelude.{◌≡◌, ℕ, List, length, Ok};
-ghost use Rattle.postponed.specs.Meaning.{meant};
+ghost use Rattle.std.specs.Prelude.{◌≡◌, ℕ, List, length, Ok, IsOk};
 ghost use Rattle.session.specs.Sessions.{begun};
-ghost use Rattle.session.specs.Calls.{session_bits, seal_answer, seal_bits, seal_out, seal_tag, open_answer, open_bits, open_out};
-ghost use Rattle.cowslip.specs.Memory.{session_size, kept_session, session_in, found};
-ghost use Rattle.cowslip.specs.Calls.{status, numbers_told, by_outcome, begin_outcome, session_for, of_session, seal_outcome, seal_memory, seal_buffer, seal_tag_bytes, open_outcome, kept_opened, open_memory, open_buffer};
+ghost use Rattle.session.specs.Calls.{seal_answer, seal_bits, open_answer, open_bits};
+ghost use Rattle.cowslip.specs.Memory.{session_size, kept_session, session_in};
+ghost use Rattle.cowslip.specs.Calls.{Reports, begin_outcome, begin_memory, session_for, seal_outcome, seal_memory, seal_buffer, seal_tag_bytes, open_outcome, open_memory, open_buffer};
 
 use crate::fault::CallFault;
-use crate::memory::{SESSION_SIZE, load_session, store_session};
+use crate::memory::{load_session, store_session};
 use crate::report::{Answer, report};
-use crate::values::begin_values;
-use postponed::Postponed;
-use session::{Session, SessionFault, Tag};
+use crate::values::fixed;
+use session::{Key, Nonce, Session, SessionFault, Tag};
 
 // Begins a session in lent memory.
 #[unsafe(no_mangle)]
@@ -21,18 +19,11 @@ pub extern "C" fn cowslip_session_begin(
     memory: &mut [u8],
     numbers: &mut [usize],
 ) -> u32
-    ensures status { result ≡ status (begin_outcome key.now nonce.now session_size (length memory.old)) }
-    ensures told { numbers.new ≡ numbers_told (begin_outcome key.now nonce.now session_size (length memory.old)) numbers.old }
-    ensures memory { memory.new ≡ by_outcome (begin_outcome key.now nonce.now session_size (length memory.old)) (kept_session (begun key.now nonce.now)) memory.old }
+    ensures answer { Reports (begin_outcome session_size key.now nonce.now memory.old) result numbers.old numbers.new }
+    ensures memory { memory.new ≡ begin_memory session_size key.now nonce.now (kept_session (begun key.now nonce.now)) memory.old }
     ensures next { result ≡ 0 → session_in memory.new ≡ Ok (begun key.now nonce.now) }
 {
-    match begin_values(key, nonce, SESSION_SIZE, memory.len()) {
-        Ok((key, nonce)) => {
-            store_session(Session::begin(&key, &nonce), memory);
-            0
-        }
-        Err(fault) => report(Err(fault), numbers),
-    }
+    report(begin(key, nonce, memory), numbers)
 }
 
 // Seals a text: ciphertext to the front of `out`, tag into `tag`. It cannot know whether the memory came from a beginning.
@@ -45,17 +36,13 @@ pub unsafe extern "C" fn cowslip_session_seal(
     tag: &mut [u8],
     numbers: &mut [usize],
 ) -> u32
-    ensures status { result ≡ status (seal_outcome (session_for memory.old 4 (length tag.old)) text.now (length out.old)) }
-    ensures told { numbers.new ≡ numbers_told (seal_outcome (session_for memory.old 4 (length tag.old)) text.now (length out.old)) numbers.old }
-    ensures memory { memory.new ≡ seal_memory (session_for memory.old 4 (length tag.old)) ad.now text.now (length out.old) memory.old }
-    ensures out { out.new ≡ seal_buffer (session_for memory.old 4 (length tag.old)) ad.now text.now out.old }
-    ensures tag { tag.new ≡ seal_tag_bytes (session_for memory.old 4 (length tag.old)) ad.now text.now (length out.old) tag.old }
+    ensures answer { Reports (seal_outcome memory.old text.now (length out.old) (length tag.old)) result numbers.old numbers.new }
+    ensures memory { memory.new ≡ seal_memory memory.old ad.now text.now (length out.old) (length tag.old) }
+    ensures out { out.new ≡ seal_buffer memory.old ad.now text.now out.old (length tag.old) }
+    ensures tag { tag.new ≡ seal_tag_bytes memory.old ad.now text.now (length out.old) tag.old }
     ensures next { (s : List ℕ) → session_for memory.old 4 (length tag.old) ≡ Ok s → session_in memory.new ≡ Ok (seal_bits s ad.now text.now (seal_answer text.now (length out.old))) }
 {
-    match session_in(memory, 4, tag.len()) {
-        Ok(session) => report(seal(session, memory, ad, text, out, tag), numbers),
-        Err(fault) => report(Err(fault), numbers),
-    }
+    report(seal(memory, ad, text, out, tag), numbers)
 }
 
 // Opens a ciphertext into the front of `out`. It cannot know whether the memory came from a beginning.
@@ -68,86 +55,81 @@ pub unsafe extern "C" fn cowslip_session_open(
     out: &mut [u8],
     numbers: &mut [usize],
 ) -> u32
-    ensures status { result ≡ status (open_outcome (session_for memory.old 3 (length tag.now)) ad.now ciphertext.now tag.now (length out.old)) }
-    ensures told { numbers.new ≡ numbers_told (open_outcome (session_for memory.old 3 (length tag.now)) ad.now ciphertext.now tag.now (length out.old)) numbers.old }
-    ensures memory { memory.new ≡ open_memory (session_for memory.old 3 (length tag.now)) ad.now ciphertext.now tag.now (length out.old) memory.old }
-    ensures out { out.new ≡ open_buffer (session_for memory.old 3 (length tag.now)) ad.now ciphertext.now tag.now out.old }
+    ensures answer { Reports (open_outcome memory.old ad.now ciphertext.now tag.now (length out.old)) result numbers.old numbers.new }
+    ensures memory { memory.new ≡ open_memory memory.old ad.now ciphertext.now tag.now (length out.old) }
+    ensures out { out.new ≡ open_buffer memory.old ad.now ciphertext.now tag.now out.old }
     ensures next { (s : List ℕ) → session_for memory.old 3 (length tag.now) ≡ Ok s → session_in memory.new ≡ Ok (open_bits s ad.now ciphertext.now (open_answer s ad.now ciphertext.now tag.now (length out.old))) }
 {
-    match session_in(memory, 3, tag.len()) {
-        Ok(session) => report(open(session, memory, ad, ciphertext, tag, out), numbers),
-        Err(fault) => report(Err(fault), numbers),
-    }
+    report(open(memory, ad, ciphertext, tag, out), numbers)
 }
 
-// The session of a call whose argument of this number is a tag.
-fn session_in(memory: &[u8], argument: usize, tag: usize) -> Result<Session<Postponed>, CallFault>
-    ensures { found (session_bits meant) result ≡ session_for memory.now argument tag }
+// As the `begin` of ends: one function of both would need a trait of sessions and ends, which is no shorter.
+fn begin(key: &[u8], nonce: &[u8], memory: &mut [u8]) -> Result<Answer, CallFault>
+    ensures value { result ≡ begin_outcome session_size key.now nonce.now memory.old }
+    ensures memory { memory.new ≡ begin_memory session_size key.now nonce.now (kept_session (begun key.now nonce.now)) memory.old }
+    ensures next { IsOk result → session_in memory.new ≡ Ok (begun key.now nonce.now) }
 {
-    if memory.len() != SESSION_SIZE {
-        return Err(CallFault::Length { argument: 0 });
-    }
-    if tag != 16 {
-        return Err(CallFault::Length { argument });
-    }
-    load_session(memory)
+    let key = Key {
+        bytes: fixed(key, 0)?,
+    };
+    let nonce = Nonce {
+        bytes: fixed(nonce, 1)?,
+    };
+    let memory = memory
+        .as_mut_array()
+        .ok_or(CallFault::Length { argument: 2 })?;
+    store_session(Session::begin(&key, &nonce), memory);
+    Ok(Answer::Nothing)
 }
 
 fn seal(
-    mut session: Session<Postponed>,
     memory: &mut [u8],
     ad: &[u8],
     text: &[u8],
     out: &mut [u8],
     tag: &mut [u8],
 ) -> Result<Answer, CallFault>
-    requires memory { length memory.old ≡ 34 }
-    requires tag { length tag.old ≡ 16 }
-    ensures value { result ≡ of_session (seal_answer text.now (length out.old)) }
-    ensures memory { memory.new ≡ by_outcome (seal_answer text.now (length out.old)) (kept_session (seal_bits (session_bits meant session) ad.now text.now (seal_answer text.now (length out.old)))) memory.old }
-    ensures out { out.new ≡ seal_out (session_bits meant session) ad.now text.now out.old (seal_answer text.now (length out.old)) }
-    ensures next { session_in memory.old ≡ Ok (session_bits meant session) → session_in memory.new ≡ Ok (seal_bits (session_bits meant session) ad.now text.now (seal_answer text.now (length out.old))) }
-    ensures tag { tag.new ≡ seal_tag (session_bits meant session) ad.now text.now tag.old (seal_answer text.now (length out.old)) }
+    ensures value { result ≡ seal_outcome memory.old text.now (length out.old) (length tag.old) }
+    ensures memory { memory.new ≡ seal_memory memory.old ad.now text.now (length out.old) (length tag.old) }
+    ensures out { out.new ≡ seal_buffer memory.old ad.now text.now out.old (length tag.old) }
+    ensures tag { tag.new ≡ seal_tag_bytes memory.old ad.now text.now (length out.old) tag.old }
+    ensures next { (s : List ℕ) → session_for memory.old 4 (length tag.old) ≡ Ok s → session_in memory.new ≡ Ok (seal_bits s ad.now text.now (seal_answer text.now (length out.old))) }
 {
+    let memory = memory
+        .as_mut_array()
+        .ok_or(CallFault::Length { argument: 0 })?;
+    let tag = tag.as_mut_array().ok_or(CallFault::Length { argument: 4 })?;
+    let mut session = load_session(memory)?;
     let mut made = Tag { bytes: [0; 16] };
-    match session.seal(ad, text, out, &mut made) {
-        Ok(length) => {
-            tag.copy_from_slice(&made.bytes);
-            store_session(session, memory);
-            Ok(Answer::One(length))
-        }
-        Err(fault) => Err(CallFault::Session(fault)),
-    }
+    let length = session.seal(ad, text, out, &mut made)?;
+    *tag = made.bytes;
+    store_session(session, memory);
+    Ok(Answer::One(length))
 }
 
 fn open(
-    mut session: Session<Postponed>,
     memory: &mut [u8],
     ad: &[u8],
     ciphertext: &[u8],
     tag: &[u8],
     out: &mut [u8],
 ) -> Result<Answer, CallFault>
-    requires memory { length memory.old ≡ 34 }
-    requires tag { length tag.now ≡ 16 }
-    ensures value { result ≡ of_session (open_answer (session_bits meant session) ad.now ciphertext.now tag.now (length out.old)) }
-    ensures memory { memory.new ≡ kept_opened (session_bits meant session) ad.now ciphertext.now (open_answer (session_bits meant session) ad.now ciphertext.now tag.now (length out.old)) memory.old }
-    ensures next { session_in memory.old ≡ Ok (session_bits meant session) → session_in memory.new ≡ Ok (open_bits (session_bits meant session) ad.now ciphertext.now (open_answer (session_bits meant session) ad.now ciphertext.now tag.now (length out.old))) }
-    ensures out { out.new ≡ open_out (session_bits meant session) ad.now ciphertext.now out.old (open_answer (session_bits meant session) ad.now ciphertext.now tag.now (length out.old)) }
+    ensures value { result ≡ open_outcome memory.old ad.now ciphertext.now tag.now (length out.old) }
+    ensures memory { memory.new ≡ open_memory memory.old ad.now ciphertext.now tag.now (length out.old) }
+    ensures out { out.new ≡ open_buffer memory.old ad.now ciphertext.now tag.now out.old }
+    ensures next { (s : List ℕ) → session_for memory.old 3 (length tag.now) ≡ Ok s → session_in memory.new ≡ Ok (open_bits s ad.now ciphertext.now (open_answer s ad.now ciphertext.now tag.now (length out.old))) }
 {
-    let mut given = Tag { bytes: [0; 16] };
-    given.bytes.copy_from_slice(tag);
-    match session.open(ad, ciphertext, &given, out) {
-        Ok(length) => {
-            store_session(session, memory);
-            Ok(Answer::One(length))
-        }
-        Err(SessionFault::Tag { length }) => {
-            store_session(session, memory);
-            Err(CallFault::Session(SessionFault::Tag { length }))
-        }
-        Err(SessionFault::Short { room }) => {
-            Err(CallFault::Session(SessionFault::Short { room }))
-        }
+    let memory = memory
+        .as_mut_array()
+        .ok_or(CallFault::Length { argument: 0 })?;
+    let tag = Tag {
+        bytes: fixed(tag, 3)?,
+    };
+    let mut session = load_session(memory)?;
+    let opened = session.open(ad, ciphertext, &tag, out);
+    // A session that is short of room has not moved, and its memory is left alone.
+    if !matches!(opened, Err(SessionFault::Short { .. })) {
+        store_session(session, memory);
     }
+    Ok(Answer::One(opened?))
 }
