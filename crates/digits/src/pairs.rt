@@ -44,3 +44,19 @@ pub fn bytes(heap: Global, digits: &[u8]) -> Result<Vec<u8>, AllocError>
 pub fn digits_read_back()
     ensures { DigitsReadBack }
 {}
+
+#[cfg(test)]
+mod tests {
+    use super::*;
+    use std::test::Fail;
+
+    #[test]
+    fn bytes_of_either_case(rt: HostRuntime) -> Result<(), Fail> {
+        let heap = rt.alloc();
+        let small = bytes_by(Letters::Lower, heap, b"0aFf")?;
+        assert_eq!(rt; small.as_slice(), [0x0a, 0x0f].as_slice());
+        let either = bytes_by(Letters::Either, heap, b"0aFf")?;
+        assert_eq!(rt; either.as_slice(), [0x0a, 0xff].as_slice());
+        Ok(())
+    }
+}
