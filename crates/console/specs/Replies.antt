@@ -2,7 +2,7 @@
 use Rattle.std.specs.Prelude.{ℕ, List, [], ◌∷◌, ◌++◌, Ok, Err, codes, decimal, Result}
 use Rattle.refusals.specs.declared.Refusal.{Refusal}
 use Rattle.duplex.specs.State.{zeros}
-use Rattle.duplex.specs.Strings.{absorbed, absorbed_unkeyed, enciphered, deciphered, blanked, squeezed, drained}
+use Rattle.duplex.specs.Strings.{absorbed, absorbed_unkeyed, encrypted, decrypted, blanked, squeezed, after_squeezing}
 use Rattle.commands.specs.declared.terms.Command.{Command}
 use Rattle.commands.specs.declared.terms.Command.TheVariants.{Zero, Absorb, AbsorbUnkeyed, Encrypt, Decrypt, Blank, Squeeze}
 use Rattle.commands.specs.declared.terms.Fault.{Fault}
@@ -16,17 +16,17 @@ after s Zero t = zeros
 after s Absorb t = absorbed s t
 after s AbsorbUnkeyed t = absorbed_unkeyed s t
 after s Encrypt t = absorbed s t
-after s Decrypt t = absorbed s (deciphered s t)
+after s Decrypt t = absorbed s (decrypted s t)
 after s (Blank n) t = blanked s n
-after s (Squeeze n) t = drained s n
+after s (Squeeze n) t = after_squeezing s n
 
 -- what a command prints
 abbrev pub shown : List ℕ → Command → List ℕ → List ℕ
 shown s Zero t = codes "ok"
 shown s Absorb t = codes "ok"
 shown s AbsorbUnkeyed t = codes "ok"
-shown s Encrypt t = hex (enciphered s t)
-shown s Decrypt t = hex (deciphered s t)
+shown s Encrypt t = hex (encrypted s t)
+shown s Decrypt t = hex (decrypted s t)
 shown s (Blank n) t = codes "ok"
 shown s (Squeeze n) t = hex (squeezed s n)
 

@@ -7,7 +7,7 @@ use Rattle.std.proofs.lemmas.List.{drop_all, take_all, take-append-le, get_or-ap
 use Rattle.std.proofs.lemmas.Bool.{eq-eqb, le-ltb}
 use Rattle.duplex.specs.Bytes.{byte_of_state, bytes_of_state, state_of_bytes}
 use Rattle.duplex.specs.Strings.{word_bytes}
-use Rattle.link.specs.Frames.{Standing, largest_number}
+use Rattle.link.specs.Frames.{Standing, number_limit}
 use Rattle.cowslip.specs.declared.fault.CallFault.TheVariants.{Memory}
 use Rattle.cowslip.specs.Memory.{session_mark, kept_session, kept_end, bits_in, session_in, number_at, with_number, end_in}
 
@@ -34,7 +34,7 @@ bits_found mark s rest back =
 pub session_found : (s : List ℕ) → state_of_bytes (bytes_of_state s) ≡ s → session_in (kept_session s) ≡ Ok s
 session_found s back = ap (λ r. session_in (session_mark ∷ r)) (sym (append-nil (bytes_of_state s))) ∙ bits_found session_mark s [] back
 
-number_found : (mark : ℕ) (m : Standing) → m.number ≤ largest_number → number_at (kept_end mark m) ≡ m.number
+number_found : (mark : ℕ) (m : Standing) → m.number ≤ number_limit → number_at (kept_end mark m) ≡ m.number
 number_found mark m h =
     let n = m.number in
     let bytes = bytes_of_state m.state in
@@ -42,10 +42,10 @@ number_found mark m h =
     λ i k l e. get_or-append_right bytes (word_bytes n) 33 i 0 (length-bytes m.state) l ∙ ap (λ j. get_or (word_bytes n) j 0) e in
     omega (arith, behind 33 0 (omega arith) refl, behind 34 1 (omega arith) refl, behind 35 2 (omega arith) refl, behind 36 3 (omega arith) refl)
 
-pub end_found : (mark : ℕ) (m : Standing) → state_of_bytes (bytes_of_state m.state) ≡ m.state → m.number ≤ largest_number → end_in mark (kept_end mark m) ≡ Ok m
+pub end_found : (mark : ℕ) (m : Standing) → state_of_bytes (bytes_of_state m.state) ≡ m.state → m.number ≤ number_limit → end_in mark (kept_end mark m) ≡ Ok m
 end_found mark m back h =
     ap₂ with_number (number_found mark m h) (bits_found mark m.state (word_bytes m.number) back)
-    ∙ ap (λ b. cond b (Err Memory) (Ok m)) (le-ltb largest_number m.number h)
+    ∙ ap (λ b. cond b (Err Memory) (Ok m)) (le-ltb number_limit m.number h)
 
 -- a number of four bytes behind the bits
 pub with_number_put : (mark : ℕ) (s old number : List ℕ) → length old ≡ 38

@@ -2,7 +2,7 @@
 use Rattle.std.specs.Prelude.{ℕ, ◌+◌, ◌*◌, cond, List, ◌∷◌, ◌++◌, take, drop, Ok, Err, Result, ◌==◌, nat_lt, slice_index}
 use Rattle.duplex.specs.Bytes.{bytes_of_state, state_of_bytes}
 use Rattle.duplex.specs.Strings.{word_bytes}
-use Rattle.link.specs.Frames.{Standing, standing_of, largest_number}
+use Rattle.link.specs.Frames.{Standing, standing_of, number_limit}
 use Rattle.cowslip.specs.declared.fault.CallFault.{CallFault}
 use Rattle.cowslip.specs.declared.fault.CallFault.TheVariants.{Length, Memory}
 
@@ -44,7 +44,7 @@ abbrev pub number_at : List ℕ → ℕ
 number_at memory = slice_index memory 34 + slice_index memory 35 * 256 + slice_index memory 36 * 65536 + slice_index memory 37 * 16777216
 
 abbrev pub with_number : ℕ → Result (List ℕ) CallFault → Result Standing CallFault
-with_number n (Ok s) = cond (nat_lt largest_number n) (Err Memory) (Ok (standing_of s n))
+with_number n (Ok s) = cond (nat_lt number_limit n) (Err Memory) (Ok (standing_of s n))
 with_number n (Err e) = Err e
 
 abbrev pub end_in : ℕ → List ℕ → Result Standing CallFault

@@ -1,7 +1,7 @@
 // A digest that is fed. Bytes are absorbed as they come.
 ghost use Rattle.std.specs.Prelude.{◌≡◌, ℕ, false, ◌||◌, List, length};
 ghost use Rattle.duplex.specs.State.{zeros};
-ghost use Rattle.duplex.specs.Strings.{absorbed_unkeyed, squeezed, drained};
+ghost use Rattle.duplex.specs.Strings.{absorbed_unkeyed, squeezed, after_squeezing};
 ghost use Rattle.digests.specs.Feeding.{appended, ended, all_ended, finished, some_bytes};
 
 use duplex::Engine;
@@ -79,7 +79,7 @@ impl<E: Engine> Squeezing<E> {
     // Fills `out`. Each call takes readings of its own, and drops the bytes that are over.
     pub fn squeeze(&mut self, out: &mut [u8])
         ensures sum { out.new ≡ squeezed (E.bits self.old.duplex.engine) (length out.old) }
-        ensures moved { E.bits self.new.duplex.engine ≡ drained (E.bits self.old.duplex.engine) (length out.old) }
+        ensures moved { E.bits self.new.duplex.engine ≡ after_squeezing (E.bits self.old.duplex.engine) (length out.old) }
     {
         self.duplex.squeeze(out);
     }

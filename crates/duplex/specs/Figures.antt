@@ -1,7 +1,7 @@
 -- Worked figures of the rules, and the numbers of steps that strings take.
 use Rattle.std.specs.Prelude.{◌≡◌, ℕ, ◌+◌, ◌*◌, ◌/◌, List, [], ◌∷◌, length, slice_set}
 use Rattle.duplex.specs.State.{zeros, step, reading}
-use Rattle.duplex.specs.Strings.{padded, blocks, single_blocks, steps, absorbed, absorbed_unkeyed, squeezed, drained}
+use Rattle.duplex.specs.Strings.{padded, blocks, single_blocks, steps, absorbed, absorbed_unkeyed, squeezed, after_squeezing}
 
 -- the state in which just these bits are set
 abbrev pub only : List ℕ → List ℕ
@@ -34,7 +34,7 @@ pub record WorkedFigures : Type 0 where
   pub one_and_zeros : Stands (from_zero (0x01 ∷ 0x00 ∷ 0x00 ∷ 0x00 ∷ [])) (0 ∷ 1 ∷ 64 ∷ 85 ∷ 256 ∷ []) 256
   pub squeeze_12 : squeezed zeros 12 ≡ 0x00 ∷ 0x00 ∷ 0x00 ∷ 0x00 ∷ 0x01 ∷ 0x01 ∷ 0x00 ∷ 0x00 ∷ 0x03 ∷ 0x40 ∷ 0x00 ∷ 0x20 ∷ []
   pub squeeze_5 : squeezed zeros 5 ≡ 0x00 ∷ 0x00 ∷ 0x00 ∷ 0x00 ∷ 0x01 ∷ []
-  pub after_squeeze_5 : drained zeros 5 ≡ two_empty
+  pub after_squeeze_5 : after_squeezing zeros 5 ≡ two_empty
 
 -- a string takes one step for each of its blocks, and these are so many
 pub record StepCounts : Type 0 where

@@ -34,27 +34,27 @@ unfoldable pub absorbed_unkeyed : List ℕ → List ℕ → List ℕ
 absorbed_unkeyed s t = steps s (single_blocks t)
 
 -- a block's bytes, each added to its byte of a word, lowest first
-abbrev pub masked : ℕ → List ℕ → List ℕ
-masked w [] = []
-masked w (b ∷ bs) = (b ⊕ w % 256) ∷ masked (w / 256) bs
+abbrev pub keystream_added : ℕ → List ℕ → List ℕ
+keystream_added w [] = []
+keystream_added w (b ∷ bs) = (b ⊕ w % 256) ∷ keystream_added (w / 256) bs
 
 -- each text block is added to the reading before its step, and the step is with the text block
 abbrev pub cipher_blocks : List ℕ → List (List ℕ) → List ℕ
 cipher_blocks s [] = []
-cipher_blocks s (b ∷ bs) = masked (reading s) b ++ cipher_blocks (step s (padded b)) bs
+cipher_blocks s (b ∷ bs) = keystream_added (reading s) b ++ cipher_blocks (step s (padded b)) bs
 
 -- the same of a ciphertext block: the sum is the text block, and the step is with the text block
 abbrev pub text_blocks : List ℕ → List (List ℕ) → List ℕ
 text_blocks s [] = []
-text_blocks s (b ∷ bs) = masked (reading s) b ++ text_blocks (step s (padded (masked (reading s) b))) bs
+text_blocks s (b ∷ bs) = keystream_added (reading s) b ++ text_blocks (step s (padded (keystream_added (reading s) b))) bs
 
 -- the ciphertext of a text; the state after it is that of absorbing the text
-unfoldable pub enciphered : List ℕ → List ℕ → List ℕ
-enciphered s t = cipher_blocks s (blocks t)
+unfoldable pub encrypted : List ℕ → List ℕ → List ℕ
+encrypted s t = cipher_blocks s (blocks t)
 
 -- the text of a ciphertext; the state after it is that of absorbing the text
-unfoldable pub deciphered : List ℕ → List ℕ → List ℕ
-deciphered s c = text_blocks s (blocks c)
+unfoldable pub decrypted : List ℕ → List ℕ → List ℕ
+decrypted s c = text_blocks s (blocks c)
 
 -- the state after r steps with the empty block
 unfoldable pub blanked : List ℕ → ℕ → List ℕ
@@ -79,5 +79,5 @@ unfoldable pub squeezed : List ℕ → ℕ → List ℕ
 squeezed s n = take n (readings s (words_for n))
 
 -- the state after n bytes are squeezed
-unfoldable pub drained : List ℕ → ℕ → List ℕ
-drained s n = blanked s (words_for n)
+unfoldable pub after_squeezing : List ℕ → ℕ → List ℕ
+after_squeezing s n = blanked s (words_for n)

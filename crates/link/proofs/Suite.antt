@@ -7,14 +7,14 @@ use Rattle.std.proofs.lemmas.Bool.Decides.{nat_tests}
 use Rattle.std.proofs.lemmas.Bool.{lt-ltb, eq-eqb, ltb-true, eqb-true}
 use Rattle.duplex.specs.Strings.{word_bytes}
 use Rattle.session.specs.declared.fault.SessionFault.TheVariants.{Tag}
-use Rattle.session.specs.Sessions.{cipher, plain, tag_of, after, opens}
-use Rattle.session.proofs.SessionLaws.{plain-cipher, cipher-plain, length-cipher, length-plain, length_tag, opens_sealed, opens_tag}
+use Rattle.session.specs.Sessions.{ciphertext_of, plaintext_of, tag_of, after_sealing, opens}
+use Rattle.session.proofs.SessionLaws.{plaintext-ciphertext, ciphertext-plaintext, length-cipher, length-plaintext, length_tag, opens_sealed, opens_tag}
 use Rattle.link.specs.declared.kind.Kind.{Kind}
 use Rattle.link.specs.declared.kind.Kind.TheVariants.{PollValue, Alarm, Output, Clock, ZoneName, Heartbeat}
 use Rattle.link.specs.declared.fault.LinkFault.{LinkFault}
 use Rattle.link.specs.declared.fault.LinkFault.TheVariants.{Session}
 use Rattle.link.specs.Kinds.{kind_byte, text_length, least_room, kind_of}
-use Rattle.link.specs.Frames.{Standing, largest_number, header_length, overhead, associated, header_in, number_in, body_in, tag_in, text_in}
+use Rattle.link.specs.Frames.{Standing, number_limit, header_length, overhead, header_of, header_in, number_in, ciphertext_in, tag_in, text_in}
 use Rattle.link.specs.Sender.{frame_of, next_of, ready, written, held, writes, fed, CouldWrite}
 use Rattle.link.specs.Calls.{Checked, checked, opened, take_answer, take_standing}
 use Rattle.link.proofs.Tellings.{short_text}
@@ -38,16 +38,16 @@ byte_of_kind b k h = grind (arith, nat_tests)
 pub record Wrote (m : Standing) (b : ℕ) (t f : List ℕ) : Type 0 where
   pub kind : Kind
   pub byte : b ≡ kind_byte kind
-  pub below : m.number < largest_number
+  pub below : m.number < number_limit
   pub size : length t ≡ text_length kind
   pub frame : f ≡ frame_of m kind t
 
 wrote_at : (m : Standing) (b : ℕ) (t f : List ℕ) (o : Option Kind) → kind_of b ≡ o → written m o t ≡ Some f → Wrote m b t f
 wrote_at m b t f None e h = cc
-wrote_at m b t f (Some k) e h = at (ltb m.number largest_number) refl (eqb (length t) (text_length k)) refl h
+wrote_at m b t f (Some k) e h = at (ltb m.number number_limit) refl (eqb (length t) (text_length k)) refl h
   where
-    at : (x : Bool) → ltb m.number largest_number ≡ x → (y : Bool) → eqb (length t) (text_length k) ≡ y → cond (x && y) (Some (frame_of m k t)) None ≡ Some f → Wrote m b t f
-    at true p true q r = record { kind = k; byte = byte_of_kind b k e; below = ltb-true m.number largest_number p; size = eqb-true (length t) (text_length k) q; frame = cc }
+    at : (x : Bool) → ltb m.number number_limit ≡ x → (y : Bool) → eqb (length t) (text_length k) ≡ y → cond (x && y) (Some (frame_of m k t)) None ≡ Some f → Wrote m b t f
+    at true p true q r = record { kind = k; byte = byte_of_kind b k e; below = ltb-true m.number number_limit p; size = eqb-true (length t) (text_length k) q; frame = cc }
     at true p false q r = cc
     at false p y q r = cc
 
@@ -55,9 +55,9 @@ pub wrote : (m : Standing) (b : ℕ) (t f : List ℕ) → writes m b t ≡ Some 
 unfolding writes
 wrote m b t f h = wrote_at m b t f (kind_of b) refl h
 
-module _ (m : Standing) (k : Kind) (t : List ℕ) (below : m.number < largest_number) (size : length t ≡ text_length k) where
+module _ (m : Standing) (k : Kind) (t : List ℕ) (below : m.number < number_limit) (size : length t ≡ text_length k) where
   is_ready : ready m k t ≡ true
-  is_ready = rw (lt-ltb m.number largest_number below, eq-eqb (length t) (text_length k) size) refl
+  is_ready = rw (lt-ltb m.number number_limit below, eq-eqb (length t) (text_length k) size) refl
 
   pub writes_frame : writes m (kind_byte k) t ≡ Some (frame_of m k t)
   unfolding writes
@@ -71,10 +71,10 @@ module _ (m : Standing) (k : Kind) (t : List ℕ) (below : m.number < largest_nu
 
 module _ (m : Standing) (k : Kind) (t : List ℕ) where
   abbrev ad : List ℕ
-  ad = associated (kind_byte k) m.number
+  ad = header_of (kind_byte k) m.number
 
   abbrev body : List ℕ
-  body = cipher m.state ad t
+  body = ciphertext_of m.state ad t
 
   abbrev tag : List ℕ
   tag = tag_of m.state ad t
@@ -99,7 +99,7 @@ module _ (m : Standing) (k : Kind) (t : List ℕ) where
   unfolding frame_of
   frame_length = let a = length-append body tag in let b = length-cipher m.state ad t in let c = length_tag m.state ad t in omega arith
 
-  frame_body : body_in (frame_of m k t) ≡ body
+  frame_body : ciphertext_in (frame_of m k t) ≡ body
   frame_body =
       let n : length body ≡ length (frame_of m k t) - overhead = omega (arith, frame_length, length-cipher m.state ad t) in
       ap (take (length (frame_of m k t) - overhead)) frame_rest ∙ take_at body tag (length (frame_of m k t) - overhead) n
@@ -111,13 +111,13 @@ module _ (m : Standing) (k : Kind) (t : List ℕ) where
       drop_at (ad ++ body) tag (length (frame_of m k t) - 16) n
 
   frame_text : text_in m (frame_of m k t) ≡ t
-  frame_text = ap₂ (plain m.state) frame_header frame_body ∙ plain-cipher m.state ad t
+  frame_text = ap₂ (plaintext_of m.state) frame_header frame_body ∙ plaintext-ciphertext m.state ad t
 
-  frame_opens : opens m.state (header_in (frame_of m k t)) (body_in (frame_of m k t)) (tag_in (frame_of m k t)) ≡ true
+  frame_opens : opens m.state (header_in (frame_of m k t)) (ciphertext_in (frame_of m k t)) (tag_in (frame_of m k t)) ≡ true
   frame_opens = rw (frame_header, frame_body, frame_tag) (opens_sealed m.state ad t)
 
   -- what the sender writes is accepted
-  pub accepted_frame : m.number < largest_number → length t ≡ text_length k → (room : ℕ) → text_length k ≤ room → take_answer m (frame_of m k t) room ≡ Ok k
+  pub accepted_frame : m.number < number_limit → length t ≡ text_length k → (room : ℕ) → text_length k ≤ room → take_answer m (frame_of m k t) room ≡ Ok k
   accepted_frame below size room fits =
       let f = frame_of m k t in
       let n : length f ≡ text_length k + overhead = omega (arith, frame_length) in
@@ -130,16 +130,16 @@ module _ (m : Standing) (k : Kind) (t : List ℕ) where
 
 module _ (m : Standing) (f : List ℕ) (room : ℕ) (k : Kind) where
   pub record Accepted : Type 0 where
-    pub below : m.number < largest_number
+    pub below : m.number < number_limit
     pub size : length (text_in m f) ≡ text_length k
-    pub head : header_in f ≡ associated (kind_byte k) m.number
+    pub head : header_in f ≡ header_of (kind_byte k) m.number
     pub whole : f ≡ frame_of m k (text_in m f)
 
   five : (g : List ℕ) → 5 ≤ length g → header_in g ≡ get_or g 0 0 ∷ number_in g
   five [] h = absurd (omega arith)
   five (a ∷ g) h = refl
 
-  parts : (g : List ℕ) (n : ℕ) → length g ≡ n + overhead → g ≡ header_in g ++ (body_in g ++ tag_in g)
+  parts : (g : List ℕ) (n : ℕ) → length g ≡ n + overhead → g ≡ header_in g ++ (ciphertext_in g ++ tag_in g)
   parts g n h =
       let d : 5 + (length g - 21) ≡ length g - 16 = omega arith in
       let back : drop (length g - 21) (drop 5 g) ≡ tag_in g = drop-drop (length g - 21) 5 g ∙ ap (λ i. drop i g) d in
@@ -147,34 +147,34 @@ module _ (m : Standing) (f : List ℕ) (room : ℕ) (k : Kind) where
       let rest = take-append-drop (length g - 21) (drop 5 g) in
       cc
 
-  accepted_at : (r : Checked) → r ≡ checked m.number f room → (x : Bool) → opens m.state (header_in f) (body_in f) (tag_in f) ≡ x → opened m f r ≡ Ok k → Accepted
+  accepted_at : (r : Checked) → r ≡ checked m.number f room → (x : Bool) → opens m.state (header_in f) (ciphertext_in f) (tag_in f) ≡ x → opened m f r ≡ Ok k → Accepted
   unfolding frame_of
   accepted_at (Err e) s x o h = cc
   accepted_at (Ok j) s false o h =
-      let h2 : opened m f (Ok j) ≡ Err (Session (Tag (length (body_in f)))) = ap (λ y. cond y (Ok j) (Err (Session (Tag (length (body_in f)))))) o in
+      let h2 : opened m f (Ok j) ≡ Err (Session (Tag (length (ciphertext_in f)))) = ap (λ y. cond y (Ok j) (Err (Session (Tag (length (ciphertext_in f)))))) o in
       cc
   accepted_at (Ok j) s true o h =
-      let h2 : opened m f (Ok j) ≡ Ok j = ap (λ y. cond y (Ok j) (Err (Session (Tag (length (body_in f)))))) o in
+      let h2 : opened m f (Ok j) ≡ Ok j = ap (λ y. cond y (Ok j) (Err (Session (Tag (length (ciphertext_in f)))))) o in
       let same : j ≡ k = cc in
       let p = passes m.number f room j s in
       let n : length f ≡ text_length k + overhead = p.size ∙ ap (λ i. text_length i + overhead) same in
       let first : get_or f 0 0 ≡ kind_byte k = byte_of_kind (get_or f 0 0) j p.kind ∙ ap kind_byte same in
       let number : number_in f ≡ word_bytes m.number = (bytes_eq-Decides _ _).0 p.number in
       let enough : 5 ≤ length f = omega arith in
-      let head : header_in f ≡ associated (kind_byte k) m.number = five f enough ∙ ap₂ ◌∷◌ first number in
-      let body = cipher-plain m.state (header_in f) (body_in f) in
-      let tag = opens_tag m.state (header_in f) (body_in f) (tag_in f) o in
+      let head : header_in f ≡ header_of (kind_byte k) m.number = five f enough ∙ ap₂ ◌∷◌ first number in
+      let body = ciphertext-plaintext m.state (header_in f) (ciphertext_in f) in
+      let tag = opens_tag m.state (header_in f) (ciphertext_in f) (tag_in f) o in
       record {
         below = p.below;
-        size = length-plain m.state (header_in f) (body_in f) ∙ length_body f (text_length k) n;
+        size = length-plaintext m.state (header_in f) (ciphertext_in f) ∙ length_body f (text_length k) n;
         head = head;
-        whole = parts f (text_length k) n ∙ ap₂ (λ a b. header_in f ++ (a ++ b)) (sym body) tag ∙ ap (λ a. a ++ (cipher m.state a (text_in m f) ++ tag_of m.state a (text_in m f))) head;
+        whole = parts f (text_length k) n ∙ ap₂ (λ a b. header_in f ++ (a ++ b)) (sym body) tag ∙ ap (λ a. a ++ (ciphertext_of m.state a (text_in m f) ++ tag_of m.state a (text_in m f))) head;
       }
 
   module _ (h : take_answer m f room ≡ Ok k) where
     pub accepted_is : Accepted
     unfolding take_answer
-    accepted_is = accepted_at (checked m.number f room) refl (opens m.state (header_in f) (body_in f) (tag_in f)) refl h
+    accepted_is = accepted_at (checked m.number f room) refl (opens m.state (header_in f) (ciphertext_in f) (tag_in f)) refl h
 
     pub accepted-writes : writes m (kind_byte k) (text_in m f) ≡ Some f
     accepted-writes = let a = accepted_is in writes_frame m k (text_in m f) a.below a.size ∙ ap Some (sym a.whole)
@@ -183,7 +183,7 @@ module _ (m : Standing) (f : List ℕ) (room : ℕ) (k : Kind) where
     unfolding next_of
     accepted-stands =
         let a = accepted_is in
-        ap (λ x. record { state = after m.state x (text_in m f); number = m.number + 1 }) a.head ∙ sym (fed_next m k (text_in m f) a.below a.size)
+        ap (λ x. record { state = after_sealing m.state x (text_in m f); number = m.number + 1 }) a.head ∙ sym (fed_next m k (text_in m f) a.below a.size)
 
 -- Just one kind and text fit a frame.
 

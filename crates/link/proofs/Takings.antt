@@ -8,12 +8,12 @@ use Rattle.session.specs.declared.fault.SessionFault.{SessionFault}
 use Rattle.session.specs.declared.fault.SessionFault.TheVariants.{Tag}
 use Rattle.session.specs.Sessions.{opens}
 use Rattle.session.specs.Calls.{open_answer, open_out, verdict}
-use Rattle.session.proofs.SessionLaws.{open_fits, length-plain}
+use Rattle.session.proofs.SessionLaws.{open_fits, length-plaintext}
 use Rattle.link.specs.declared.kind.Kind.{Kind}
 use Rattle.link.specs.declared.fault.LinkFault.{LinkFault}
 use Rattle.link.specs.declared.fault.LinkFault.TheVariants.{Spent, Empty, UnknownKind, WrongLength, ShortBuffer, WrongNumber, Session}
 use Rattle.link.specs.Kinds.{text_length, kind_of}
-use Rattle.link.specs.Frames.{Standing, largest_number, overhead, header_in, number_in, body_in, tag_in}
+use Rattle.link.specs.Frames.{Standing, number_limit, overhead, header_in, number_in, ciphertext_in, tag_in}
 use Rattle.link.specs.Calls.{Checked, checked, known, fitting, take_answer, take_text}
 
 -- What is known of a frame of the kind k at each answer.
@@ -48,42 +48,42 @@ module _ (n : ℕ) (f : List ℕ) (room : ℕ) (k : Kind) where
 
 -- The same of any frame.
 pub data Seen (n : ℕ) (f : List ℕ) (room : ℕ) : Checked → Type 0 where
-  spent : largest_number ≤ n → Seen n f room (Err Spent)
-  empty : n < largest_number → length f ≡ 0 → Seen n f room (Err Empty)
-  unknown : n < largest_number → (length f ≡ 0 → ⊥) → kind_of (get_or f 0 0) ≡ None → Seen n f room (Err UnknownKind)
-  known_kind : {r : Checked} (k : Kind) → n < largest_number → (length f ≡ 0 → ⊥) → kind_of (get_or f 0 0) ≡ Some k → Fit n f room k r → Seen n f room r
+  spent : number_limit ≤ n → Seen n f room (Err Spent)
+  empty : n < number_limit → length f ≡ 0 → Seen n f room (Err Empty)
+  unknown : n < number_limit → (length f ≡ 0 → ⊥) → kind_of (get_or f 0 0) ≡ None → Seen n f room (Err UnknownKind)
+  known_kind : {r : Checked} (k : Kind) → n < number_limit → (length f ≡ 0 → ⊥) → kind_of (get_or f 0 0) ≡ Some k → Fit n f room k r → Seen n f room r
 
 module _ (n : ℕ) (f : List ℕ) (room : ℕ) where
-  checked_kind : n < largest_number → (length f ≡ 0 → ⊥) → (o : Option Kind) → kind_of (get_or f 0 0) ≡ o → checked n f room ≡ known n f room o
+  checked_kind : n < number_limit → (length f ≡ 0 → ⊥) → (o : Option Kind) → kind_of (get_or f 0 0) ≡ o → checked n f room ≡ known n f room o
   unfolding checked
-  checked_kind h z o e = rw (lt-ltb n largest_number h, ne_eqb (length f) 0 z) (ap (known n f room) e)
+  checked_kind h z o e = rw (lt-ltb n number_limit h, ne_eqb (length f) 0 z) (ap (known n f room) e)
 
   pub seen_is : {r : Checked} → Seen n f room r → r ≡ checked n f room
   unfolding checked
-  seen_is (spent h) = sym (rw (le-ltb n largest_number h) refl)
-  seen_is (empty h z) = sym (rw (lt-ltb n largest_number h, eq-eqb (length f) 0 z) refl)
+  seen_is (spent h) = sym (rw (le-ltb n number_limit h) refl)
+  seen_is (empty h z) = sym (rw (lt-ltb n number_limit h, eq-eqb (length f) 0 z) refl)
   seen_is (unknown h z e) = sym (checked_kind h z None e)
   seen_is (known_kind k h z e fit) = fit_is n f room k fit ∙ sym (checked_kind h z (Some k) e)
 
-  at_kind : n < largest_number → (length f ≡ 0 → ⊥) → (o : Option Kind) → kind_of (get_or f 0 0) ≡ o → Seen n f room (known n f room o)
+  at_kind : n < number_limit → (length f ≡ 0 → ⊥) → (o : Option Kind) → kind_of (get_or f 0 0) ≡ o → Seen n f room (known n f room o)
   at_kind h z None e = unknown h z e
   at_kind h z (Some k) e = known_kind k h z e (at_length n f room k (eqb (length f) (text_length k + overhead)) refl)
 
-  at_empty : n < largest_number → (b : Bool) → eqb (length f) 0 ≡ b → Seen n f room (cond b (Err Empty) (known n f room (kind_of (get_or f 0 0))))
+  at_empty : n < number_limit → (b : Bool) → eqb (length f) 0 ≡ b → Seen n f room (cond b (Err Empty) (known n f room (kind_of (get_or f 0 0))))
   at_empty h true e = empty h (eqb-true (length f) 0 e)
   at_empty h false e = at_kind h (eqb-false (length f) 0 e) (kind_of (get_or f 0 0)) refl
 
-  at_limit : (b : Bool) → ltb n largest_number ≡ b → Seen n f room (cond b (cond (eqb (length f) 0) (Err Empty) (known n f room (kind_of (get_or f 0 0)))) (Err Spent))
-  at_limit true e = at_empty (ltb-true n largest_number e) (eqb (length f) 0) refl
-  at_limit false e = spent (ltb-false n largest_number e)
+  at_limit : (b : Bool) → ltb n number_limit ≡ b → Seen n f room (cond b (cond (eqb (length f) 0) (Err Empty) (known n f room (kind_of (get_or f 0 0)))) (Err Spent))
+  at_limit true e = at_empty (ltb-true n number_limit e) (eqb (length f) 0) refl
+  at_limit false e = spent (ltb-false n number_limit e)
 
   pub seen : Seen n f room (checked n f room)
   unfolding checked
-  seen = at_limit (ltb n largest_number) refl
+  seen = at_limit (ltb n number_limit) refl
 
 -- a frame that passed
 pub record Passed (n : ℕ) (f : List ℕ) (room : ℕ) (k : Kind) : Type 0 where
-  pub below : n < largest_number
+  pub below : n < number_limit
   pub kind : kind_of (get_or f 0 0) ≡ Some k
   pub size : length f ≡ text_length k + overhead
   pub roomy : text_length k ≤ room
@@ -112,44 +112,44 @@ module _ (m : Standing) (f : List ℕ) (room : ℕ) where
   unfolding take_answer
   answer_err e h = rw (sym h) refl
 
-  answer_opens : (k : Kind) → Ok k ≡ checked m.number f room → (b : Bool) → opens m.state (header_in f) (body_in f) (tag_in f) ≡ b
-      → take_answer m f room ≡ cond b (Ok k) (Err (Session (Tag (length (body_in f)))))
+  answer_opens : (k : Kind) → Ok k ≡ checked m.number f room → (b : Bool) → opens m.state (header_in f) (ciphertext_in f) (tag_in f) ≡ b
+      → take_answer m f room ≡ cond b (Ok k) (Err (Session (Tag (length (ciphertext_in f)))))
   unfolding take_answer
   answer_opens k h b o = rw (sym h, o) refl
 
-  pub answer_ok : (k : Kind) → Ok k ≡ checked m.number f room → opens m.state (header_in f) (body_in f) (tag_in f) ≡ true → take_answer m f room ≡ Ok k
+  pub answer_ok : (k : Kind) → Ok k ≡ checked m.number f room → opens m.state (header_in f) (ciphertext_in f) (tag_in f) ≡ true → take_answer m f room ≡ Ok k
   answer_ok k h o = answer_opens k h true o
 
-  pub answer_tag : (k : Kind) → Ok k ≡ checked m.number f room → opens m.state (header_in f) (body_in f) (tag_in f) ≡ false
-      → take_answer m f room ≡ Err (Session (Tag (length (body_in f))))
+  pub answer_tag : (k : Kind) → Ok k ≡ checked m.number f room → opens m.state (header_in f) (ciphertext_in f) (tag_in f) ≡ false
+      → take_answer m f room ≡ Err (Session (Tag (length (ciphertext_in f))))
   answer_tag k h o = answer_opens k h false o
 
-pub length_body : (f : List ℕ) (n : ℕ) → length f ≡ n + overhead → length (body_in f) ≡ n
+pub length_body : (f : List ℕ) (n : ℕ) → length f ≡ n + overhead → length (ciphertext_in f) ≡ n
 length_body f n h = simp (length-take, length-drop) (omega arith)
 
 -- an opening on a copy of the session, of a frame that passed the checks and was cut into its parts
-module _ (m : Standing) (f old s header body tag : List ℕ) (k : Kind) (same : s ≡ m.state) (eh : header ≡ header_in f) (eb : body ≡ body_in f) (et : tag ≡ tag_in f) (h : Ok k ≡ checked m.number f (length old)) where
-  opening : open_answer s header body tag (length old) ≡ verdict (body_in f) (opens m.state (header_in f) (body_in f) (tag_in f))
+module _ (m : Standing) (f old s header body tag : List ℕ) (k : Kind) (same : s ≡ m.state) (eh : header ≡ header_in f) (eb : body ≡ ciphertext_in f) (et : tag ≡ tag_in f) (h : Ok k ≡ checked m.number f (length old)) where
+  opening : open_answer s header body tag (length old) ≡ verdict (ciphertext_in f) (opens m.state (header_in f) (ciphertext_in f) (tag_in f))
   opening =
       let p = passes m.number f (length old) k h in
       let n = length_body f (text_length k) p.size in
-      let fits : length (body_in f) ≤ length old = omega (arith, p.roomy) in
-      rw (same, eh, eb, et) (open_fits m.state (header_in f) (body_in f) (tag_in f) (length old) fits)
+      let fits : length (ciphertext_in f) ≤ length old = omega (arith, p.roomy) in
+      rw (same, eh, eb, et) (open_fits m.state (header_in f) (ciphertext_in f) (tag_in f) (length old) fits)
 
-  pub took_ok : (n : ℕ) → Ok n ≡ open_answer s header body tag (length old) → (n ≡ length (body_in f)) × (Ok k ≡ take_answer m f (length old))
-  took_ok n e = at (opens m.state (header_in f) (body_in f) (tag_in f)) refl (e ∙ opening)
+  pub took_ok : (n : ℕ) → Ok n ≡ open_answer s header body tag (length old) → (n ≡ length (ciphertext_in f)) × (Ok k ≡ take_answer m f (length old))
+  took_ok n e = at (opens m.state (header_in f) (ciphertext_in f) (tag_in f)) refl (e ∙ opening)
     where
-      at : (b : Bool) → opens m.state (header_in f) (body_in f) (tag_in f) ≡ b → Ok n ≡ verdict (body_in f) b → (n ≡ length (body_in f)) × (Ok k ≡ take_answer m f (length old))
+      at : (b : Bool) → opens m.state (header_in f) (ciphertext_in f) (tag_in f) ≡ b → Ok n ≡ verdict (ciphertext_in f) b → (n ≡ length (ciphertext_in f)) × (Ok k ≡ take_answer m f (length old))
       at true o x = (cc, sym (answer_ok m f (length old) k h o))
       at false o x = cc
 
-  pub took_tag : (y : SessionFault) → Err y ≡ open_answer s header body tag (length old) → (y ≡ Tag (length (body_in f))) × (Err (Session y) ≡ take_answer m f (length old))
-  took_tag y e = at (opens m.state (header_in f) (body_in f) (tag_in f)) refl (e ∙ opening)
+  pub took_tag : (y : SessionFault) → Err y ≡ open_answer s header body tag (length old) → (y ≡ Tag (length (ciphertext_in f))) × (Err (Session y) ≡ take_answer m f (length old))
+  took_tag y e = at (opens m.state (header_in f) (ciphertext_in f) (tag_in f)) refl (e ∙ opening)
     where
-      at : (b : Bool) → opens m.state (header_in f) (body_in f) (tag_in f) ≡ b → Err y ≡ verdict (body_in f) b → (y ≡ Tag (length (body_in f))) × (Err (Session y) ≡ take_answer m f (length old))
+      at : (b : Bool) → opens m.state (header_in f) (ciphertext_in f) (tag_in f) ≡ b → Err y ≡ verdict (ciphertext_in f) b → (y ≡ Tag (length (ciphertext_in f))) × (Err (Session y) ≡ take_answer m f (length old))
       at true o x = cc
-      at false o x = let q : y ≡ Tag (length (body_in f)) = cc in (q, ap (λ v. Err (Session v)) q ∙ sym (answer_tag m f (length old) k h o))
+      at false o x = let q : y ≡ Tag (length (ciphertext_in f)) = cc in (q, ap (λ v. Err (Session v)) q ∙ sym (answer_tag m f (length old) k h o))
 
   -- the zeros that it leaves
-  pub zeroed : (y : SessionFault) → y ≡ Tag (length (body_in f)) → open_out s header body old (Err y) ≡ take_text m f old (Err (Session y))
-  zeroed y e = rw (e, same, eh, eb) (ap (λ n. replicate n 0 ++ drop (length (body_in f)) old) (length-plain m.state (header_in f) (body_in f)))
+  pub zeroed : (y : SessionFault) → y ≡ Tag (length (ciphertext_in f)) → open_out s header body old (Err y) ≡ take_text m f old (Err (Session y))
+  zeroed y e = rw (e, same, eh, eb) (ap (λ n. replicate n 0 ++ drop (length (ciphertext_in f)) old) (length-plaintext m.state (header_in f) (ciphertext_in f)))

@@ -4,7 +4,7 @@ use Rattle.std.specs.Str.{bytes_eq}
 use Rattle.duplex.specs.Strings.{word_bytes}
 use Rattle.session.specs.declared.fault.SessionFault.TheVariants.{Tag}
 use Rattle.session.specs.Calls.{session_bits}
-use Rattle.session.specs.Sessions.{after, opens}
+use Rattle.session.specs.Sessions.{after_sealing, opens}
 use Rattle.link.specs.declared.kind.Kind.{Kind}
 use Rattle.link.specs.declared.fault.LinkFault.{LinkFault}
 use Rattle.link.specs.declared.fault.LinkFault.TheVariants.{Spent, Empty, UnknownKind, WrongLength, ShortBuffer, WrongNumber, Session}
@@ -12,7 +12,7 @@ use Rattle.link.specs.declared.ends.End.{End}
 use Rattle.link.specs.declared.ends.Sending.{Sending}
 use Rattle.link.specs.declared.ends.Receiving.{Receiving}
 use Rattle.link.specs.Kinds.{text_length, kind_of}
-use Rattle.link.specs.Frames.{Standing, standing_of, largest_number, overhead, header_in, number_in, body_in, tag_in, text_in}
+use Rattle.link.specs.Frames.{Standing, standing_of, number_limit, overhead, header_in, number_in, ciphertext_in, tag_in, text_in}
 use Rattle.link.specs.Sender.{frame_of, next_of}
 
 -- where an end stands, by what its engine means
@@ -28,7 +28,7 @@ module _ {E : Type 0} (bits : E → List ℕ) where
 
 -- where an end stands that goes on from bits and a number that were kept, if there is one
 abbrev pub resumed : List ℕ → ℕ → Option Standing
-resumed s n = cond (nat_lt largest_number n) None (Some (standing_of s n))
+resumed s n = cond (nat_lt number_limit n) None (Some (standing_of s n))
 
 -- the kind that passed the checks, or the first of them that failed
 abbrev pub Checked : Type 0
@@ -49,7 +49,7 @@ known n f room (Some k) = fitting n f room k
 
 unfoldable pub checked : ℕ → List ℕ → ℕ → Checked
 checked n f room =
-    cond (nat_lt n largest_number)
+    cond (nat_lt n number_limit)
     (cond (length f == 0) (Err Empty) (known n f room (kind_of (slice_index f 0))))
     (Err Spent)
 
@@ -57,7 +57,7 @@ checked n f room =
 abbrev pub opened : Standing → List ℕ → Checked → Checked
 opened m f (Err e) = Err e
 opened m f (Ok k) =
-    cond (opens m.state (header_in f) (body_in f) (tag_in f)) (Ok k) (Err (Session (Tag (length (body_in f)))))
+    cond (opens m.state (header_in f) (ciphertext_in f) (tag_in f)) (Ok k) (Err (Session (Tag (length (ciphertext_in f)))))
 
 unfoldable pub take_answer : Standing → List ℕ → ℕ → Checked
 take_answer m f room = opened m f (checked m.number f room)
@@ -65,12 +65,12 @@ take_answer m f room = opened m f (checked m.number f room)
 -- a refusal leaves the end as it was
 abbrev pub take_standing : Standing → List ℕ → Checked → Standing
 take_standing m f (Err e) = m
-take_standing m f (Ok k) = record { state = after m.state (header_in f) (text_in m f); number = m.number + 1 }
+take_standing m f (Ok k) = record { state = after_sealing m.state (header_in f) (text_in m f); number = m.number + 1 }
 
 -- the text at the front of the buffer, or as many zeros where its tag differs; a refusal before the opening leaves the buffer as it was
 abbrev pub take_text : Standing → List ℕ → List ℕ → Checked → List ℕ
-take_text m f old (Ok k) = text_in m f ++ drop (length (body_in f)) old
-take_text m f old (Err (Session e)) = replicate (length (body_in f)) 0 ++ drop (length (body_in f)) old
+take_text m f old (Ok k) = text_in m f ++ drop (length (ciphertext_in f)) old
+take_text m f old (Err (Session e)) = replicate (length (ciphertext_in f)) 0 ++ drop (length (ciphertext_in f)) old
 take_text m f old (Err Spent) = old
 take_text m f old (Err Empty) = old
 take_text m f old (Err UnknownKind) = old
@@ -91,7 +91,7 @@ named t room None = Err UnknownKind
 named t room (Some k) = suited t room k
 
 unfoldable pub vetted : ℕ → ℕ → List ℕ → ℕ → Checked
-vetted n b t room = cond (nat_lt n largest_number) (named t room (kind_of b)) (Err Spent)
+vetted n b t room = cond (nat_lt n number_limit) (named t room (kind_of b)) (Err Spent)
 
 -- After those checks: the frame's length and the number that it carries, where the end stands, and the frame at the front of the buffer.
 

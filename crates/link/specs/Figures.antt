@@ -8,7 +8,7 @@ use Rattle.link.specs.declared.kind.Kind.{Kind}
 use Rattle.link.specs.declared.kind.Kind.TheVariants.{Heartbeat}
 use Rattle.link.specs.declared.fault.LinkFault.{LinkFault}
 use Rattle.link.specs.Kinds.{kind_byte, text_length, least_room, kind_of}
-use Rattle.link.specs.Frames.{Standing, associated, header_in, number_in, body_in, tag_in}
+use Rattle.link.specs.Frames.{Standing, header_of, header_in, number_in, ciphertext_in, tag_in}
 use Rattle.link.specs.Sender.{frame_of, writes}
 use Rattle.link.specs.Refusals.{told}
 use Rattle.link.specs.Calls.{take_answer, write_answer}
@@ -39,5 +39,5 @@ pub record FrameFigures : Type 0 where
   pub five_bytes : (m : Standing) (room : ℕ) → m.number < 1000000 → Refuses (take_answer m (0x06 ∷ 0x00 ∷ 0x00 ∷ 0x00 ∷ 0x00 ∷ []) room) Link 4 5
   pub zone_name_into_31 : (m : Standing) (f : List ℕ) → m.number < 1000000 → slice_index f 0 ≡ 0x05 → length f ≡ 53 → Refuses (take_answer m f 31) Link 5 31
   pub number_2_at_3 : (m : Standing) (f : List ℕ) (room : ℕ) → m.number ≡ 3 → slice_index f 0 ≡ 0x06 → length f ≡ 21 → number_in f ≡ 2 ∷ 0 ∷ 0 ∷ 0 ∷ [] → Refuses (take_answer m f room) Link 6 1
-  pub heartbeat_tag : (m : Standing) (f : List ℕ) (room : ℕ) → m.number < 1000000 → header_in f ≡ associated 0x06 m.number → length f ≡ 21 → opens m.state (header_in f) (body_in f) (tag_in f) ≡ false
+  pub heartbeat_tag : (m : Standing) (f : List ℕ) (room : ℕ) → m.number < 1000000 → header_in f ≡ header_of 0x06 m.number → length f ≡ 21 → opens m.state (header_in f) (ciphertext_in f) (tag_in f) ≡ false
       → Refuses (take_answer m f room) Session 7 5

@@ -1,7 +1,7 @@
 -- The parts of a frame, and where an end stands.
 use Rattle.std.specs.Prelude.{ℕ, ◌-◌, List, ◌∷◌, length, take, drop}
 use Rattle.duplex.specs.Strings.{word_bytes}
-use Rattle.session.specs.Sessions.{begun, plain}
+use Rattle.session.specs.Sessions.{begun, plaintext_of}
 
 -- where an end stands: 257 bits and a number
 pub record Standing : Type 0 where
@@ -16,8 +16,8 @@ unfoldable pub started : List ℕ → List ℕ → Standing
 started key nonce = record { state = begun key nonce; number = 0 }
 
 -- an end that has come to this number neither writes nor takes
-abbrev pub largest_number : ℕ
-largest_number = 1000000
+abbrev pub number_limit : ℕ
+number_limit = 1000000
 
 -- the bytes before the ciphertext are so many
 abbrev pub header_length : ℕ
@@ -28,8 +28,8 @@ abbrev pub overhead : ℕ
 overhead = 21
 
 -- the bytes before the ciphertext, which are the associated data: a kind byte, and a number in four bytes
-abbrev pub associated : ℕ → ℕ → List ℕ
-associated byte number = byte ∷ word_bytes number
+abbrev pub header_of : ℕ → ℕ → List ℕ
+header_of byte number = byte ∷ word_bytes number
 
 -- What is read in a frame: the associated data and, of it, the number; the ciphertext; the tag.
 
@@ -39,12 +39,12 @@ header_in f = take header_length f
 abbrev pub number_in : List ℕ → List ℕ
 number_in f = take 4 (drop 1 f)
 
-abbrev pub body_in : List ℕ → List ℕ
-body_in f = take (length f - overhead) (drop header_length f)
+abbrev pub ciphertext_in : List ℕ → List ℕ
+ciphertext_in f = take (length f - overhead) (drop header_length f)
 
 abbrev pub tag_in : List ℕ → List ℕ
 tag_in f = drop (length f - 16) f
 
 -- the text that a session at these bits reads in it
 abbrev pub text_in : Standing → List ℕ → List ℕ
-text_in m f = plain m.state (header_in f) (body_in f)
+text_in m f = plaintext_of m.state (header_in f) (ciphertext_in f)

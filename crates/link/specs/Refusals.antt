@@ -12,7 +12,7 @@ use Rattle.session.specs.Sessions.{opens}
 use Rattle.link.specs.declared.fault.LinkFault.{LinkFault}
 use Rattle.link.specs.declared.fault.LinkFault.TheVariants.{Spent, Empty, UnknownKind, WrongLength, ShortBuffer, WrongNumber, Session as InSession}
 use Rattle.link.specs.Kinds.{text_length, kind_of}
-use Rattle.link.specs.Frames.{Standing, largest_number, header_length, overhead, header_in, number_in, body_in, tag_in}
+use Rattle.link.specs.Frames.{Standing, number_limit, header_length, overhead, header_in, number_in, ciphertext_in, tag_in}
 
 abbrev by : Layer → ℕ → ℕ → Refusal
 by layer number place = record { number = number; layer = layer; place = place }
@@ -42,19 +42,19 @@ length_for b = unwrap_or (option_map text_length (kind_of b)) 0
 -- taking a frame f where an end stands, with room for so many bytes of text; its first byte is its kind's
 unfoldable pub take_table : Standing → List ℕ → ℕ → Table
 take_table m f room =
-    ((m.number == largest_number), by Link 1 0)
+    ((m.number == number_limit), by Link 1 0)
     ∷ ((length f == 0), by Link 2 0)
     ∷ (no_kind (slice_index f 0), by Link 3 0)
     ∷ (not (length f == length_for (slice_index f 0) + overhead), by Link 4 (length f))
     ∷ (nat_lt room (length_for (slice_index f 0)), by Link 5 room)
     ∷ (not (bytes_eq (number_in f) (word_bytes m.number)), by Link 6 1)
-    ∷ (not (opens m.state (header_in f) (body_in f) (tag_in f)), by Session 7 (length (body_in f) + header_length))
+    ∷ (not (opens m.state (header_in f) (ciphertext_in f) (tag_in f)), by Session 7 (length (ciphertext_in f) + header_length))
     ∷ []
 
 -- writing a text t of the kind with byte b where an end stands, with room for so many bytes of frame
 unfoldable pub write_table : Standing → ℕ → List ℕ → ℕ → Table
 write_table m b t room =
-    ((m.number == largest_number), by Link 1 0)
+    ((m.number == number_limit), by Link 1 0)
     ∷ (no_kind b, by Link 3 0)
     ∷ (not (length t == length_for b), by Link 4 (length t))
     ∷ (nat_lt room (length_for b + overhead), by Link 5 room)

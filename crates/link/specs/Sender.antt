@@ -1,23 +1,23 @@
 -- The suite's sender: a plain machine that holds 257 bits and a number, is fed kinds and texts, and writes whole frames.
 use Rattle.std.specs.Prelude.{◌≡◌, ℕ, ◌+◌, Bool, cond, ◌&&◌, List, ◌++◌, length, Some, None, Option, ◌==◌, nat_lt}
-use Rattle.session.specs.Sessions.{cipher, tag_of, after}
+use Rattle.session.specs.Sessions.{ciphertext_of, tag_of, after_sealing}
 use Rattle.link.specs.declared.kind.Kind.{Kind}
 use Rattle.link.specs.Kinds.{kind_byte, text_length, kind_of}
-use Rattle.link.specs.Frames.{Standing, largest_number, associated}
+use Rattle.link.specs.Frames.{Standing, number_limit, header_of}
 
 -- the frame of a text: the associated data, then the text sealed with it
 unfoldable pub frame_of : Standing → Kind → List ℕ → List ℕ
 frame_of m k t =
-    let ad = associated (kind_byte k) m.number in
-    ad ++ (cipher m.state ad t ++ tag_of m.state ad t)
+    let ad = header_of (kind_byte k) m.number in
+    ad ++ (ciphertext_of m.state ad t ++ tag_of m.state ad t)
 
 -- what the machine holds after it
 unfoldable pub next_of : Standing → Kind → List ℕ → Standing
-next_of m k t = record { state = after m.state (associated (kind_byte k) m.number) t; number = m.number + 1 }
+next_of m k t = record { state = after_sealing m.state (header_of (kind_byte k) m.number) t; number = m.number + 1 }
 
 -- it writes below the largest number, and a text of the kind's length
 abbrev pub ready : Standing → Kind → List ℕ → Bool
-ready m k t = nat_lt m.number largest_number && length t == text_length k
+ready m k t = nat_lt m.number number_limit && length t == text_length k
 
 abbrev pub written : Standing → Option Kind → List ℕ → Option (List ℕ)
 written m None t = None

@@ -5,7 +5,7 @@ ghost use Rattle.session.specs.Calls.{session_bits};
 ghost use Rattle.link.specs.Frames.{standing_of, started};
 ghost use Rattle.link.specs.Calls.{stands, resumed};
 
-use crate::frame::{LARGEST, Number};
+use crate::frame::{NUMBER_LIMIT, Number};
 use duplex::Engine;
 use session::{Key, Nonce, Session};
 use std::marker::PhantomData;
@@ -58,7 +58,7 @@ impl<E: Engine, D> End<E, D> {
     pub unsafe fn resume(session: Session<E>, number: u32) -> Option<End<E, D>>
         ensures { option_map (stands E.bits) result ≡ resumed (session_bits E.bits session) number }
     {
-        if number > LARGEST {
+        if number > NUMBER_LIMIT {
             return None;
         }
         Some(End {

@@ -1,7 +1,7 @@
 // What a frame is made of: a kind byte, a number in four bytes, a ciphertext and a tag.
 ghost use Rattle.std.specs.Prelude.{◌≡◌, ◌+◌, ◌<◌, ◌≤◌, not, nat_lt};
 ghost use Rattle.link.specs.Kinds.{kind_byte};
-ghost use Rattle.link.specs.Frames.{largest_number, associated};
+ghost use Rattle.link.specs.Frames.{number_limit, header_of};
 
 use crate::kind::Kind;
 
@@ -14,24 +14,24 @@ pub const TAG: usize = 16;
 pub const OVERHEAD: usize = HEADER + TAG;
 
 // The largest number: an end that has come to it neither writes nor takes.
-pub const LARGEST: u32 = 1_000_000;
+pub const NUMBER_LIMIT: u32 = 1_000_000;
 
 // How many frames an end has written or taken.
 #[derive(Clone, Copy)]
 pub struct Number {
     pub value: u32,
-    ghost within: { value ≤ largest_number },
+    ghost within: { value ≤ number_limit },
 }
 
 impl Number {
     pub(crate) fn is_largest(self) -> bool
-        ensures { result ≡ not (nat_lt self.value largest_number) }
+        ensures { result ≡ not (nat_lt self.value number_limit) }
     {
-        self.value >= LARGEST
+        self.value >= NUMBER_LIMIT
     }
 
     pub(crate) fn next(self) -> Number
-        requires { self.value < largest_number }
+        requires { self.value < number_limit }
         ensures { result.value ≡ self.value + 1 }
     {
         Number {
@@ -42,7 +42,7 @@ impl Number {
 
 // The bytes before the ciphertext.
 pub fn header(kind: Kind, number: Number) -> [u8; HEADER]
-    ensures { result ≡ associated (kind_byte kind) number.value }
+    ensures { result ≡ header_of (kind_byte kind) number.value }
 {
     let [n0, n1, n2, n3] = number.value.to_le_bytes();
     [u8::from(kind), n0, n1, n2, n3]

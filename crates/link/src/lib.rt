@@ -12,5 +12,5 @@ mod sending;
 pub use ends::{End, Receiving, ReceivingEnd, Sending, SendingEnd};
 pub use fault::LinkFault;
 pub use figures::frame_figures;
-pub use frame::{LARGEST, OVERHEAD};
+pub use frame::{NUMBER_LIMIT, OVERHEAD};
 pub use kind::{Kind, UnknownKind};

@@ -1,7 +1,7 @@
 // The receiving end.
 ghost use Rattle.std.specs.Prelude.{◌≡◌, ◌≤◌, length};
 ghost use Rattle.refusals.specs.Tables.{first_of, refused_by};
-ghost use Rattle.link.specs.Frames.{overhead, header_in, body_in, tag_in};
+ghost use Rattle.link.specs.Frames.{overhead, header_in, ciphertext_in, tag_in};
 ghost use Rattle.link.specs.Refusals.{told, take_table};
 ghost use Rattle.link.specs.Calls.{receiving, checked, take_answer, take_standing, take_text};
 
@@ -63,7 +63,7 @@ fn check(number: Number, frame: &[u8], room: usize) -> Result<Kind, LinkFault>
 fn parts(frame: &[u8]) -> (&[u8], &[u8], Tag)
     requires { overhead ≤ length frame.now }
     ensures header { result.0.now ≡ header_in frame.now }
-    ensures body { result.1.now ≡ body_in frame.now }
+    ensures body { result.1.now ≡ ciphertext_in frame.now }
     ensures tag { result.2.bytes ≡ tag_in frame.now }
 {
     let (header, sealed) = frame.split_at(HEADER);

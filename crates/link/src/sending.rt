@@ -2,7 +2,7 @@
 ghost use Rattle.std.specs.Prelude.{◌≡◌, ◌+◌, ◌++◌, length};
 ghost use Rattle.refusals.specs.Tables.{first_of, refused_by};
 ghost use Rattle.session.specs.Calls.{session_bits};
-ghost use Rattle.session.specs.Sessions.{cipher, tag_of, after};
+ghost use Rattle.session.specs.Sessions.{ciphertext_of, tag_of, after_sealing};
 ghost use Rattle.link.specs.Frames.{overhead};
 ghost use Rattle.link.specs.Refusals.{told, write_table};
 ghost use Rattle.link.specs.Calls.{sending, vetted, write_answer, write_standing, write_out};
@@ -60,8 +60,8 @@ fn check(number: Number, kind: u8, text: &[u8], room: usize) -> Result<Kind, Lin
 #[tactic(auto, unfolding(session::specs::Calls::seal_answer))]
 fn lay<E: Engine>(session: &mut Session<E>, ad: &[u8; HEADER], text: &[u8], out: &mut [u8])
     requires { length out.old ≡ length text.now + overhead }
-    ensures moved { session_bits E.bits session.new ≡ after (session_bits E.bits session.old) ad.now text.now }
-    ensures out { out.new ≡ ad.now ++ (cipher (session_bits E.bits session.old) ad.now text.now ++ tag_of (session_bits E.bits session.old) ad.now text.now) }
+    ensures moved { session_bits E.bits session.new ≡ after_sealing (session_bits E.bits session.old) ad.now text.now }
+    ensures out { out.new ≡ ad.now ++ (ciphertext_of (session_bits E.bits session.old) ad.now text.now ++ tag_of (session_bits E.bits session.old) ad.now text.now) }
 {
     let (header, rest) = out.split_at_mut(HEADER);
     let (body, end) = rest.split_at_mut(text.len());

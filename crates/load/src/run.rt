@@ -3,7 +3,7 @@ use crate::work::{Work, repeat};
 use crate::works::{Digesting, Passing, Sealing, Squeezing, Stepping, Writing};
 use anyhow::ensure;
 use duplex::Engine;
-use link::{Kind, LARGEST, OVERHEAD, ReceivingEnd, SendingEnd};
+use link::{Kind, NUMBER_LIMIT, OVERHEAD, ReceivingEnd, SendingEnd};
 use session::{Key, Nonce, Session, Tag};
 use std::alloc::Global;
 use std::marker::PhantomData;
@@ -73,7 +73,7 @@ impl Load {
     }
 
     fn write<E: Engine>(self, kind: Kind) -> anyhow::Result<Vec<u8>> {
-        ensure!(self.count <= LARGEST, NO_NUMBER);
+        ensure!(self.count <= NUMBER_LIMIT, NO_NUMBER);
         let mut work = Writing {
             panel: SendingEnd::<E>::begin(&KEY, &NONCE),
             kind,
@@ -84,7 +84,7 @@ impl Load {
     }
 
     fn take<E: Engine>(self, kind: Kind) -> anyhow::Result<Vec<u8>> {
-        ensure!(self.count <= LARGEST, NO_NUMBER);
+        ensure!(self.count <= NUMBER_LIMIT, NO_NUMBER);
         let mut work = Passing {
             panel: SendingEnd::<E>::begin(&KEY, &NONCE),
             head: ReceivingEnd::<E>::begin(&KEY, &NONCE),

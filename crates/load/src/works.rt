@@ -1,7 +1,7 @@
 // What is measured, over any engine.
 ghost use Rattle.std.specs.Prelude.{◌≡◌, ◌+◌, ◌^◌, [], ◌∷◌, length, replicate};
 ghost use Rattle.duplex.specs.State.{step, reading};
-ghost use Rattle.duplex.specs.Strings.{squeezed, drained};
+ghost use Rattle.duplex.specs.Strings.{squeezed, after_squeezing};
 ghost use Rattle.digests.specs.Digests.{digested};
 ghost use Rattle.session.specs.Calls.{session_bits, seal_answer, seal_bits, seal_out, seal_tag};
 ghost use Rattle.link.specs.Calls.{sending, receiving, write_answer, write_standing, write_out};
@@ -60,7 +60,7 @@ pub(crate) struct Squeezing<E> {
 }
 
 impl<E: Engine> Work for Squeezing<E> {
-    ghost turned = { λ text a b. (b.1 ≡ squeezed (E.Engine.bits a.0.duplex.engine) (length a.1)) × (E.Engine.bits b.0.duplex.engine ≡ drained (E.Engine.bits a.0.duplex.engine) (length a.1)) };
+    ghost turned = { λ text a b. (b.1 ≡ squeezed (E.Engine.bits a.0.duplex.engine) (length a.1)) × (E.Engine.bits b.0.duplex.engine ≡ after_squeezing (E.Engine.bits a.0.duplex.engine) (length a.1)) };
 
     fn turn(&mut self, text: &[u8], out: &mut [u8]) {
         self.duplex.squeeze(out);

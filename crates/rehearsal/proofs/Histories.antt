@@ -4,7 +4,7 @@ use Rattle.std.specs.declared.alloc.Global.{Global}
 use Rattle.std.proofs.lemmas.List.{take_at}
 use Rattle.link.specs.declared.kind.Kind.{Kind}
 use Rattle.link.specs.Kinds.{kind_byte, text_length, least_room, kind_of}
-use Rattle.link.specs.Frames.{Standing, started, body_in, text_in}
+use Rattle.link.specs.Frames.{Standing, started, ciphertext_in, text_in}
 use Rattle.link.specs.Sender.{writes, fed, next_of}
 use Rattle.link.specs.Calls.{Checked, take_answer, take_standing, take_text}
 use Rattle.link.proofs.Suite.{kind_byte_of, wrote, fed_next, accepted_is, accepted-writes, accepted-stands, only, refused_never}
@@ -25,7 +25,7 @@ Fits m c a m' = Due m m.number c a m' × (m'.number ≡ m.number + count a)
 fits_taking : (m m' : Standing) (f old new : List ℕ) (r : given.Answer Kind) (a : Checked) → least_room ≤ length old → take_answer m f (length old) ≡ a → r ≡ given.Answer.Made a → new ≡ take_text m f old a → m' ≡ take_standing m f a → Fits m (take_frame f) (said_by r new) m'
 fits_taking m m' f old new r (Ok k) room h er en em =
     let size = (accepted_is m f (length old) k h).size in
-    let text : take (text_length k) new ≡ text_in m f = ap (take (text_length k)) en ∙ take_at (text_in m f) (drop (length (body_in f)) old) (text_length k) size in
+    let text : take (text_length k) new ≡ text_in m f = ap (take (text_length k)) en ∙ take_at (text_in m f) (drop (length (ciphertext_in f)) old) (text_length k) size in
     let place : m' ≡ fed m (kind_byte k) (text_in m f) = em ∙ accepted-stands m f (length old) k h in
     let w = accepted-writes m f (length old) k h in
     let due : Due m m.number (take_frame f) (taken k (text_in m f)) (fed m (kind_byte k) (text_in m f)) = accepts k (text_in m f) w (λ b u v. only m (kind_byte k) b (text_in m f) u f w v) in

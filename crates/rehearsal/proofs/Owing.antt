@@ -4,7 +4,7 @@ use Rattle.std.proofs.lemmas.Bool.{le-ltb, ne_eqb}
 use Rattle.link.specs.declared.kind.Kind.{Kind}
 use Rattle.link.specs.declared.fault.LinkFault.{LinkFault}
 use Rattle.link.specs.Kinds.{text_length, kind_of}
-use Rattle.link.specs.Frames.{Standing, largest_number, overhead}
+use Rattle.link.specs.Frames.{Standing, number_limit, overhead}
 use Rattle.link.specs.Sender.{frame_of, next_of, written, writes, fed}
 use Rattle.link.specs.Calls.{Checked, vetted, wrote_pair, wrote_standing, wrote_out}
 use Rattle.link.proofs.Suite.{byte_of_kind, writes_frame, fed_next, frame_length}
@@ -21,9 +21,9 @@ use Rattle.rehearsal.specs.Rehearsals.{SendingCall, ordered, ordered_by, done, d
 
 -- Where the suite's sender writes nothing.
 
-spent_at : (m : Standing) (t : List ℕ) (o : Option Kind) → largest_number ≤ m.number → written m o t ≡ None
+spent_at : (m : Standing) (t : List ℕ) (o : Option Kind) → number_limit ≤ m.number → written m o t ≡ None
 spent_at m t None h = refl
-spent_at m t (Some k) h = ap (λ (x : Bool). cond (x && eqb (length t) (text_length k)) (Some (frame_of m k t)) None) (le-ltb m.number largest_number h)
+spent_at m t (Some k) h = ap (λ (x : Bool). cond (x && eqb (length t) (text_length k)) (Some (frame_of m k t)) None) (le-ltb m.number number_limit h)
 
 long_at : (m : Standing) (t : List ℕ) (k : Kind) (x y : Bool) → y ≡ false → cond (x && y) (Some (frame_of m k t)) None ≡ None
 long_at m t k true y h = ap (λ (z : Bool). cond z (Some (frame_of m k t)) None) h
@@ -34,9 +34,9 @@ module _ (m : Standing) (b : ℕ) (t old : List ℕ) where
   unfolding writes
   nothing e (Withholds.spent h) = spent_at m t (kind_of b) h
   nothing e (Withholds.unknown h k) = ap (λ (o : Option Kind). written m o t) k
-  nothing e (Withholds.unfit k h p l) = ap (λ (o : Option Kind). written m o t) p ∙ long_at m t k (ltb m.number largest_number) (eqb (length t) (text_length k)) (ne_eqb (length t) (text_length k) l)
+  nothing e (Withholds.unfit k h p l) = ap (λ (o : Option Kind). written m o t) p ∙ long_at m t k (ltb m.number number_limit) (eqb (length t) (text_length k)) (ne_eqb (length t) (text_length k) l)
 
-  module _ (k : Kind) (below : m.number < largest_number) (e : kind_of b ≡ Some k) (size : length t ≡ text_length k) where
+  module _ (k : Kind) (below : m.number < number_limit) (e : kind_of b ≡ Some k) (size : length t ≡ text_length k) where
     writes_it : writes m b t ≡ Some (frame_of m k t)
     writes_it = ap (λ (c : ℕ). writes m c t) (byte_of_kind b k e) ∙ writes_frame m k t below size
 

@@ -4,7 +4,7 @@ use Rattle.link.specs.declared.kind.Kind.{Kind}
 use Rattle.link.specs.declared.fault.LinkFault.{LinkFault}
 use Rattle.link.specs.declared.fault.LinkFault.TheVariants.{Spent, UnknownKind, WrongLength, ShortBuffer}
 use Rattle.link.specs.Kinds.{kind_byte, text_length, kind_of}
-use Rattle.link.specs.Frames.{Standing, largest_number}
+use Rattle.link.specs.Frames.{Standing, number_limit}
 use Rattle.link.specs.Sender.{writes, fed, CouldWrite}
 
 -- A receiving end.
@@ -103,9 +103,9 @@ tally (told n) = 0
 
 -- Why the suite's sender writes nothing: the first of these that holds.
 pub data Withholds (m : Standing) (b : ℕ) (t : List ℕ) : LinkFault → Type 0 where
-  spent : largest_number ≤ m.number → Withholds m b t Spent
-  unknown : m.number < largest_number → kind_of b ≡ None → Withholds m b t UnknownKind
-  unfit : (k : Kind) → m.number < largest_number → kind_of b ≡ Some k → (length t ≢ text_length k) → Withholds m b t (WrongLength (length t))
+  spent : number_limit ≤ m.number → Withholds m b t Spent
+  unknown : m.number < number_limit → kind_of b ≡ None → Withholds m b t UnknownKind
+  unfit : (k : Kind) → m.number < number_limit → kind_of b ≡ Some k → (length t ≢ text_length k) → Withholds m b t (WrongLength (length t))
 
 -- The answer that is due to a call where the suite's sender, fed the earlier writings that had room, holds m and n frames were written, and what that sender holds then.
 pub data Owed (m : Standing) (n : ℕ) : Writing → Written → Standing → Type 0 where

@@ -1,7 +1,7 @@
 // All the frames that two ends have numbers for.
 use crate::script::Opening;
 use duplex::Engine;
-use link::{Kind, LARGEST, LinkFault, OVERHEAD, ReceivingEnd, SendingEnd};
+use link::{Kind, NUMBER_LIMIT, LinkFault, OVERHEAD, ReceivingEnd, SendingEnd};
 
 // The bytes of a heartbeat's frame, whose text is empty.
 const FRAME: usize = OVERHEAD;
@@ -39,7 +39,7 @@ pub(crate) fn pass_all<W: Engine, R: Engine>(opening: &Opening) -> Tally {
     let mut head = ReceivingEnd::<R>::begin(key, nonce);
     // `take_while(..).count()` is no plainer: its closure changes both ends, and the count is a usize.
     let mut passed = 0;
-    for number in 0..LARGEST {
+    for number in 0..NUMBER_LIMIT {
         if !pass(&mut panel, &mut head, number) {
             break;
         }
@@ -62,9 +62,9 @@ impl Tally {
     pub(crate) fn is_full(&self) -> bool {
         *self
             == Tally {
-                passed: LARGEST,
-                panel: LARGEST,
-                head: LARGEST,
+                passed: NUMBER_LIMIT,
+                panel: NUMBER_LIMIT,
+                head: NUMBER_LIMIT,
                 unwritten: Some(LinkFault::Spent),
                 untaken: Some(LinkFault::Spent),
             }

@@ -3,7 +3,7 @@ use Rattle.std.proofs.Common.{◌≡◌, ℕ, ◌-◌, ◌≤◌, false, List, �
 use Rattle.std.proofs.lemmas.List.{append-nil, length-append, length-take, drop_all, drop_at, take_all, take_at, take-append-drop}
 use Rattle.session.specs.declared.fault.SessionFault.{SessionFault}
 use Rattle.session.specs.declared.fault.SessionFault.TheVariants.{Tag}
-use Rattle.session.specs.Sessions.{cipher, tag_of, opens}
+use Rattle.session.specs.Sessions.{ciphertext_of, tag_of, opens}
 use Rattle.session.specs.Calls.{seal_answer, open_answer, Sealed}
 use Rattle.session.proofs.SessionLaws.{seal_fits, open_refused, opens_sealed, length-cipher, length_tag}
 use Rattle.sealed.specs.declared.fault.SealedFault.TheVariants.{Session}
@@ -11,11 +11,11 @@ use Rattle.sealed.specs.Bytes.{sealed_bytes, NotOpened}
 
 -- the ciphertext fills the vector
 pub sealed_front : (s ad text old out rest : List ℕ) (n len : ℕ) → len ≡ length text → length old ≡ len → Ok n ≡ seal_answer text (length old)
-    → out ≡ cipher s ad text ++ drop n old → take len (out ++ rest) ≡ cipher s ad text
+    → out ≡ ciphertext_of s ad text ++ drop n old → take len (out ++ rest) ≡ ciphertext_of s ad text
 sealed_front s ad text old out rest n len l room value e =
     let fits = seal_fits text (length old) (omega arith) in
     let whole : n ≡ length text = cc in
-    let same : out ≡ cipher s ad text = e ∙ (ap (λ x. cipher s ad text ++ x) (drop_all n old (omega arith)) ∙ append-nil (cipher s ad text)) in
+    let same : out ≡ ciphertext_of s ad text = e ∙ (ap (λ x. ciphertext_of s ad text ++ x) (drop_all n old (omega arith)) ∙ append-nil (ciphertext_of s ad text)) in
     take_at out rest len (ap length same ∙ (length-cipher s ad text ∙ sym l)) ∙ same
 
 -- the text that was opened, sealed again, is the file
@@ -33,7 +33,7 @@ never_short text room f h e = let fits = seal_fits text room h in let z : ◌≡
 -- a file that is refused is no sealed text
 pub never_sealed : (s ad file : List ℕ) → (let n = length file - 16 in opens s ad (take n file) (drop n file) ≡ false → (text : List ℕ) → file ≡ sealed_bytes s ad text → ⊥)
 never_sealed s ad file differs text e =
-    let c = cipher s ad text in
+    let c = ciphertext_of s ad text in
     let t = tag_of s ad text in
     let n : length c ≡ length file - 16 = omega (arith, ap length e, length-append c t, length_tag s ad text) in
     let front : take (length file - 16) file ≡ c = ap (take (length file - 16)) e ∙ take_at c t (length file - 16) n in

@@ -4,39 +4,39 @@ use Rattle.std.proofs.lemmas.Slice.Eq.{bytes_eq-Decides}
 use Rattle.std.proofs.lemmas.List.{take_at}
 use Rattle.std.proofs.lemmas.Bool.{le-ltb}
 use Rattle.duplex.specs.Strings.{absorbed, squeezed, readings}
-use Rattle.strings.proofs.Blocks.{deciphered-enciphered, enciphered-deciphered, length-enciphered, length-deciphered}
+use Rattle.strings.proofs.Blocks.{decrypted-encrypted, encrypted-decrypted, length-encrypted, length-decrypted}
 use Rattle.session.specs.declared.fault.SessionFault.{SessionFault}
 use Rattle.session.specs.declared.fault.SessionFault.TheVariants.{Short, Tag}
-use Rattle.session.specs.Sessions.{cipher, tag_of, after, plain, opens, shown}
+use Rattle.session.specs.Sessions.{ciphertext_of, tag_of, after_sealing, plaintext_of, opens, shown}
 use Rattle.session.specs.Calls.{Answer, seal_answer, verdict, open_answer, ReadsBack, Sealed, OnlySealed}
 
-pub plain-cipher : (s ad text : List ℕ) → plain s ad (cipher s ad text) ≡ text
-unfolding plain cipher
-plain-cipher s ad text = deciphered-enciphered (absorbed s ad) text
+pub plaintext-ciphertext : (s ad text : List ℕ) → plaintext_of s ad (ciphertext_of s ad text) ≡ text
+unfolding plaintext_of ciphertext_of
+plaintext-ciphertext s ad text = decrypted-encrypted (absorbed s ad) text
 
-pub cipher-plain : (s ad c : List ℕ) → cipher s ad (plain s ad c) ≡ c
-unfolding plain cipher
-cipher-plain s ad c = enciphered-deciphered (absorbed s ad) c
+pub ciphertext-plaintext : (s ad c : List ℕ) → ciphertext_of s ad (plaintext_of s ad c) ≡ c
+unfolding plaintext_of ciphertext_of
+ciphertext-plaintext s ad c = encrypted-decrypted (absorbed s ad) c
 
-pub length-cipher : (s ad text : List ℕ) → length (cipher s ad text) ≡ length text
-unfolding cipher
-length-cipher s ad text = length-enciphered (absorbed s ad) text
+pub length-cipher : (s ad text : List ℕ) → length (ciphertext_of s ad text) ≡ length text
+unfolding ciphertext_of
+length-cipher s ad text = length-encrypted (absorbed s ad) text
 
-pub length-plain : (s ad c : List ℕ) → length (plain s ad c) ≡ length c
-unfolding plain
-length-plain s ad c = length-deciphered (absorbed s ad) c
+pub length-plaintext : (s ad c : List ℕ) → length (plaintext_of s ad c) ≡ length c
+unfolding plaintext_of
+length-plaintext s ad c = length-decrypted (absorbed s ad) c
 
 pub length_tag : (s ad text : List ℕ) → length (tag_of s ad text) ≡ 16
 unfolding tag_of squeezed readings
 length_tag s ad text = refl
 
 -- what sealing writes opens
-pub opens_sealed : (s ad text : List ℕ) → opens s ad (cipher s ad text) (tag_of s ad text) ≡ true
+pub opens_sealed : (s ad text : List ℕ) → opens s ad (ciphertext_of s ad text) (tag_of s ad text) ≡ true
 unfolding opens
-opens_sealed s ad text = (bytes_eq-Decides _ _).1 (ap (tag_of s ad) (plain-cipher s ad text))
+opens_sealed s ad text = (bytes_eq-Decides _ _).1 (ap (tag_of s ad) (plaintext-ciphertext s ad text))
 
 -- what opens has the tag of its text
-pub opens_tag : (s ad c tag : List ℕ) → opens s ad c tag ≡ true → tag ≡ tag_of s ad (plain s ad c)
+pub opens_tag : (s ad c tag : List ℕ) → opens s ad c tag ≡ true → tag ≡ tag_of s ad (plaintext_of s ad c)
 unfolding opens
 opens_tag s ad c tag h = sym ((bytes_eq-Decides _ _).0 h)
 
@@ -68,12 +68,12 @@ module _ (s ad c tag : List ℕ) (room : ℕ) where
       at false o h = (cc, o)
 
 -- The two theorems, of what an opening with room enough leaves.
-module _ (s ad c tag old : List ℕ) (r : Answer) (s' new : List ℕ) (value : r ≡ verdict c (opens s ad c tag)) (moved : s' ≡ after s ad (plain s ad c)) (out : new ≡ shown (opens s ad c tag) (plain s ad c) ++ drop (length c) old) where
+module _ (s ad c tag old : List ℕ) (r : Answer) (s' new : List ℕ) (value : r ≡ verdict c (opens s ad c tag)) (moved : s' ≡ after_sealing s ad (plaintext_of s ad c)) (out : new ≡ shown (opens s ad c tag) (plaintext_of s ad c) ++ drop (length c) old) where
   pub reads_back : ReadsBack s ad c tag old r s' new
   reads_back text ec et h =
       let n : length c ≡ length text = ap length ec ∙ length-cipher s ad text in
       let o : opens s ad c tag ≡ true = ap₂ (opens s ad) ec et ∙ opens_sealed s ad text in
-      let p : plain s ad c ≡ text = ap (plain s ad) ec ∙ plain-cipher s ad text in
+      let p : plaintext_of s ad c ≡ text = ap (plaintext_of s ad) ec ∙ plaintext-ciphertext s ad text in
       record {
         accepts = rw o at value ∙ ap Ok n;
         shows = rw (o, p, n) at out;
@@ -87,9 +87,9 @@ module _ (s ad c tag old : List ℕ) (r : Answer) (s' new : List ℕ) (value : r
       at false o = cc
       at true o =
           let l : length c ≡ n = cc in
-          let t : plain s ad c ≡ take n new = sym (ap (take n) (rw o at out) ∙ take_at (plain s ad c) (drop (length c) old) n (length-plain s ad c ∙ l)) in
+          let t : plaintext_of s ad c ≡ take n new = sym (ap (take n) (rw o at out) ∙ take_at (plaintext_of s ad c) (drop (length c) old) n (length-plaintext s ad c ∙ l)) in
           record {
-            ciphertext = sym (cipher-plain s ad c) ∙ ap (cipher s ad) t;
+            ciphertext = sym (ciphertext-plaintext s ad c) ∙ ap (ciphertext_of s ad) t;
             same_tag = opens_tag s ad c tag o ∙ ap (tag_of s ad) t;
-            stands = moved ∙ ap (after s ad) t;
+            stands = moved ∙ ap (after_sealing s ad) t;
           }

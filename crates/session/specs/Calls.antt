@@ -4,7 +4,7 @@ use Rattle.session.specs.declared.fault.SessionFault.{SessionFault}
 use Rattle.session.specs.declared.fault.SessionFault.TheVariants.{Short, Tag}
 use Rattle.session.specs.declared.sealing.Keyed.{Keyed}
 use Rattle.session.specs.declared.sealing.Session.{Session}
-use Rattle.session.specs.Sessions.{cipher, tag_of, after, plain, opens, shown}
+use Rattle.session.specs.Sessions.{ciphertext_of, tag_of, after_sealing, plaintext_of, opens, shown}
 
 -- where a keyed state and a session stand, by what the engine means
 module _ {E : Type 0} (bits : E → List ℕ) where
@@ -24,11 +24,11 @@ unfoldable pub seal_answer : List ℕ → ℕ → Answer
 seal_answer text room = cond (nat_lt room (length text)) (Err (Short room)) (Ok (length text))
 
 abbrev pub seal_bits : List ℕ → List ℕ → List ℕ → Answer → List ℕ
-seal_bits s ad text (Ok n) = after s ad text
+seal_bits s ad text (Ok n) = after_sealing s ad text
 seal_bits s ad text (Err e) = s
 
 abbrev pub seal_out : List ℕ → List ℕ → List ℕ → List ℕ → Answer → List ℕ
-seal_out s ad text old (Ok n) = cipher s ad text ++ drop n old
+seal_out s ad text old (Ok n) = ciphertext_of s ad text ++ drop n old
 seal_out s ad text old (Err e) = old
 
 abbrev pub seal_tag : List ℕ → List ℕ → List ℕ → List ℕ → Answer → List ℕ
@@ -46,13 +46,13 @@ unfoldable pub open_answer : List ℕ → List ℕ → List ℕ → List ℕ →
 open_answer s ad c tag room = cond (nat_lt room (length c)) (Err (Short room)) (verdict c (opens s ad c tag))
 
 abbrev pub open_bits : List ℕ → List ℕ → List ℕ → Answer → List ℕ
-open_bits s ad c (Ok n) = after s ad (plain s ad c)
-open_bits s ad c (Err (Tag n)) = after s ad (plain s ad c)
+open_bits s ad c (Ok n) = after_sealing s ad (plaintext_of s ad c)
+open_bits s ad c (Err (Tag n)) = after_sealing s ad (plaintext_of s ad c)
 open_bits s ad c (Err (Short n)) = s
 
 abbrev pub open_out : List ℕ → List ℕ → List ℕ → List ℕ → Answer → List ℕ
-open_out s ad c old (Ok n) = shown true (plain s ad c) ++ drop n old
-open_out s ad c old (Err (Tag n)) = shown false (plain s ad c) ++ drop n old
+open_out s ad c old (Ok n) = shown true (plaintext_of s ad c) ++ drop n old
+open_out s ad c old (Err (Tag n)) = shown false (plaintext_of s ad c) ++ drop n old
 open_out s ad c old (Err (Short n)) = old
 
 -- Two theorems on an opening that answers r, after which the bits are s' and the buffer, which held old, holds new.
@@ -61,17 +61,17 @@ open_out s ad c old (Err (Short n)) = old
 pub record Reads (s ad text old : List ℕ) (r : Answer) (s' new : List ℕ) : Type 0 where
   pub accepts : r ≡ Ok (length text)
   pub shows : new ≡ text ++ drop (length text) old
-  pub stands : s' ≡ after s ad text
+  pub stands : s' ≡ after_sealing s ad text
 
 abbrev pub ReadsBack : List ℕ → List ℕ → List ℕ → List ℕ → List ℕ → Answer → List ℕ → List ℕ → Type 0
 ReadsBack s ad c tag old r s' new =
-    (text : List ℕ) → c ≡ cipher s ad text → tag ≡ tag_of s ad text → length text ≤ length old → Reads s ad text old r s' new
+    (text : List ℕ) → c ≡ ciphertext_of s ad text → tag ≡ tag_of s ad text → length text ≤ length old → Reads s ad text old r s' new
 
 -- what is accepted, sealing would have written here, of the text that now stands in the buffer
 pub record Sealed (s ad text c tag s' : List ℕ) : Type 0 where
-  pub ciphertext : c ≡ cipher s ad text
+  pub ciphertext : c ≡ ciphertext_of s ad text
   pub same_tag : tag ≡ tag_of s ad text
-  pub stands : s' ≡ after s ad text
+  pub stands : s' ≡ after_sealing s ad text
 
 abbrev pub OnlySealed : List ℕ → List ℕ → List ℕ → List ℕ → Answer → List ℕ → List ℕ → Type 0
 OnlySealed s ad c tag r s' new = (n : ℕ) → r ≡ Ok n → Sealed s ad (take n new) c tag s'

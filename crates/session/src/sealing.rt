@@ -1,9 +1,9 @@
 // Keyed states and sessions. The order of the calls is in the types: only what was given a nonce can seal and open.
 ghost use Rattle.std.specs.Prelude.{◌≡◌, length};
-ghost use Rattle.duplex.specs.Strings.{blanked, squeezed, drained};
+ghost use Rattle.duplex.specs.Strings.{blanked, squeezed, after_squeezing};
 ghost use Rattle.refusals.specs.Tables.{first_of, refused_by};
 ghost use Rattle.session.specs.Refusals.{told, seal_table, open_table};
-ghost use Rattle.session.specs.Sessions.{keyed, given, begun, cipher, tag_of, after, plain, opens, shown};
+ghost use Rattle.session.specs.Sessions.{after_key, after_nonce, begun, ciphertext_of, tag_of, after_sealing, plaintext_of, opens, shown};
 ghost use Rattle.session.specs.Calls.{keyed_bits, session_bits, seal_answer, seal_bits, seal_out, seal_tag, verdict, open_answer, open_bits, open_out, ReadsBack, OnlySealed};
 
 use crate::fault::SessionFault;
@@ -22,9 +22,9 @@ pub struct Keyed<E> {
 }
 
 impl<E: Engine> Keyed<E> {
-    #[tactic(auto, unfolding(crate::specs::Sessions::keyed))]
+    #[tactic(auto, unfolding(crate::specs::Sessions::after_key))]
     pub fn new(key: &Key) -> Keyed<E>
-        ensures { keyed_bits E.bits result ≡ keyed key.now.bytes }
+        ensures { keyed_bits E.bits result ≡ after_key key.now.bytes }
     {
         let mut duplex = Duplex::new();
         duplex.absorb(&key.bytes);
@@ -32,9 +32,9 @@ impl<E: Engine> Keyed<E> {
     }
 
     // Begins a session, and gives up the keyed state.
-    #[tactic(auto, unfolding(crate::specs::Sessions::given))]
+    #[tactic(auto, unfolding(crate::specs::Sessions::after_nonce))]
     pub fn give_nonce(self, nonce: &Nonce) -> Session<E>
-        ensures { session_bits E.bits result ≡ given (keyed_bits E.bits self) nonce.now.bytes }
+        ensures { session_bits E.bits result ≡ after_nonce (keyed_bits E.bits self) nonce.now.bytes }
     {
         let Keyed { mut duplex } = self;
         duplex.absorb(&nonce.bytes);
@@ -129,12 +129,12 @@ impl<E: Engine> Session<E> {
     }
 
     // Seals into a buffer of just the right length, and gives the tag.
-    #[tactic(auto, unfolding(crate::specs::Sessions::cipher, crate::specs::Sessions::tag_of, crate::specs::Sessions::after))]
+    #[tactic(auto, unfolding(crate::specs::Sessions::ciphertext_of, crate::specs::Sessions::tag_of, crate::specs::Sessions::after_sealing))]
     fn seal_whole(&mut self, ad: &[u8], text: &[u8], out: &mut [u8]) -> Tag
         requires { length text.now ≡ length out.old }
         ensures value { result.bytes ≡ tag_of (session_bits E.bits self.old) ad.now text.now }
-        ensures moved { session_bits E.bits self.new ≡ after (session_bits E.bits self.old) ad.now text.now }
-        ensures out { out.new ≡ cipher (session_bits E.bits self.old) ad.now text.now }
+        ensures moved { session_bits E.bits self.new ≡ after_sealing (session_bits E.bits self.old) ad.now text.now }
+        ensures out { out.new ≡ ciphertext_of (session_bits E.bits self.old) ad.now text.now }
     {
         out.copy_from_slice(text);
         self.duplex.absorb(ad);
@@ -143,7 +143,7 @@ impl<E: Engine> Session<E> {
     }
 
     // Opens into a buffer of just the right length.
-    #[tactic(auto, unfolding(crate::specs::Sessions::plain, crate::specs::Sessions::tag_of, crate::specs::Sessions::after, crate::specs::Sessions::opens))]
+    #[tactic(auto, unfolding(crate::specs::Sessions::plaintext_of, crate::specs::Sessions::tag_of, crate::specs::Sessions::after_sealing, crate::specs::Sessions::opens))]
     fn open_whole(
         &mut self,
         ad: &[u8],
@@ -153,8 +153,8 @@ impl<E: Engine> Session<E> {
     ) -> Result<usize, SessionFault>
         requires { length ciphertext.now ≡ length text.old }
         ensures value { result ≡ verdict ciphertext.now (opens (session_bits E.bits self.old) ad.now ciphertext.now tag.now.bytes) }
-        ensures moved { session_bits E.bits self.new ≡ after (session_bits E.bits self.old) ad.now (plain (session_bits E.bits self.old) ad.now ciphertext.now) }
-        ensures text { text.new ≡ shown (opens (session_bits E.bits self.old) ad.now ciphertext.now tag.now.bytes) (plain (session_bits E.bits self.old) ad.now ciphertext.now) }
+        ensures moved { session_bits E.bits self.new ≡ after_sealing (session_bits E.bits self.old) ad.now (plaintext_of (session_bits E.bits self.old) ad.now ciphertext.now) }
+        ensures text { text.new ≡ shown (opens (session_bits E.bits self.old) ad.now ciphertext.now tag.now.bytes) (plaintext_of (session_bits E.bits self.old) ad.now ciphertext.now) }
     {
         let mut guard = Guard {
             text,
@@ -176,7 +176,7 @@ impl<E: Engine> Session<E> {
     // The tag of what has been absorbed. Digests blank and squeeze so too: two calls each, and a function for both would be no shorter.
     fn squeeze_tag(&mut self) -> Tag
         ensures value { result.bytes ≡ squeezed (blanked (session_bits E.bits self.old) 8) 16 }
-        ensures moved { session_bits E.bits self.new ≡ drained (blanked (session_bits E.bits self.old) 8) 16 }
+        ensures moved { session_bits E.bits self.new ≡ after_squeezing (blanked (session_bits E.bits self.old) 8) 16 }
     {
         let mut bytes = [0; 16];
         self.duplex.blank(BLANKS);

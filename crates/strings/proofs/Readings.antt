@@ -3,7 +3,7 @@ use Rattle.std.proofs.Common.{◌≡◌, ℕ, zero, suc, ◌+◌, ◌-◌, ◌<�
 use borrow.Rule.Slice.PartMut.{put_mid}
 use Rattle.std.proofs.lemmas.List.{append-nil, length-append, length-take, length-drop, at_drop_more, at_drop_all, take_all}
 use Rattle.duplex.specs.State.{step, reading}
-use Rattle.duplex.specs.Strings.{padded, absorbed_unkeyed, blanked, word_bytes, readings, words_for, squeezed, drained}
+use Rattle.duplex.specs.Strings.{padded, absorbed_unkeyed, blanked, word_bytes, readings, words_for, squeezed, after_squeezing}
 use Rattle.strings.specs.Unkeyed.{appended}
 use Rattle.strings.proofs.Blocks.{written}
 
@@ -58,13 +58,13 @@ squeezed_more : (s : List ℕ) (n : ℕ) → 0 < n → squeezed s n ≡ take (mi
 unfolding squeezed readings
 squeezed_more s n h = ap (λ k. take n (readings s k)) (words_more n h) ∙ take_word _ _ _ _ _ n
 
-drained_more : (s : List ℕ) (n : ℕ) → 0 < n → drained s n ≡ drained (step s (padded [])) (n - min 4 n)
-unfolding drained blanked
-drained_more s n h = ap (blanked s) (words_more n h)
+after_squeezing_more : (s : List ℕ) (n : ℕ) → 0 < n → after_squeezing s n ≡ after_squeezing (step s (padded [])) (n - min 4 n)
+unfolding after_squeezing blanked
+after_squeezing_more s n h = ap (blanked s) (words_more n h)
 
 -- the bytes of n from i on, squeezed from the state s into xs, give the bytes t and the state u
 abbrev pub Fills : List ℕ → List ℕ → ℕ → ℕ → List ℕ → List ℕ → Type 0
-Fills s xs n i t u = (take i xs ++ squeezed s (n - i) ≡ t) × (drained s (n - i) ≡ u)
+Fills s xs n i t u = (take i xs ++ squeezed s (n - i) ≡ t) × (after_squeezing s (n - i) ≡ u)
 
 part_long : (s m w : List ℕ) (k : ℕ) → k ≤ 4 → w ≡ word_bytes (reading s) → m ≡ take k w → length m ≡ k
 part_long s m w k h ew em = ap length em ∙ (length-take k w ∙ (ap (λ b. min k (length b)) ew ∙ omega arith))
@@ -79,15 +79,15 @@ squeeze_turn s s' xs m w t u n i e j l h ee ej ew em es (f, g) =
     let long = part_long s m w (e - i) (omega arith) ew em in
     let front = written xs m (squeezed s' (n - j)) i e j (omega arith) long (omega arith) ej in
     let sum = squeezed_more s (n - i) some in
-    let state = drained_more s (n - i) some in
+    let state = after_squeezing_more s (n - i) some in
     (cc, cc)
 
 pub squeeze_end : (s xs t u : List ℕ) (n i : ℕ) → length xs ≡ n → n ≤ i → Fills s xs n i t u → (xs ≡ t) × (s ≡ u)
-unfolding squeezed drained blanked
+unfolding squeezed after_squeezing blanked
 squeeze_end s xs t u n i l h (e, f) =
     let none : n - i ≡ 0 = omega arith in
     let all : take i xs ≡ xs = take_all i xs (omega arith) in
-    (sym (ap₂ (λ p k. p ++ squeezed s k) all none ∙ append-nil xs) ∙ e, sym (ap (drained s) none) ∙ f)
+    (sym (ap₂ (λ p k. p ++ squeezed s k) all none ∙ append-nil xs) ∙ e, sym (ap (after_squeezing s) none) ∙ f)
 
 -- the last turn, with no more than four bytes left
 pub squeeze_last : (s s' xs m w t u : List ℕ) (n i e : ℕ) → length xs ≡ n → i < n → n - i ≤ 4 → e ≡ min (i + 4) (length xs)

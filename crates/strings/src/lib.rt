@@ -3,7 +3,7 @@
 
 ghost use Rattle.std.specs.Prelude.{◌≡◌, ℕ, ◌≤◌, List, [], length};
 ghost use Rattle.duplex.specs.State.{zeros, step, reading};
-ghost use Rattle.duplex.specs.Strings.{padded, blocks, absorbed, absorbed_unkeyed, masked, enciphered, deciphered, blanked, word_bytes, squeezed, drained};
+ghost use Rattle.duplex.specs.Strings.{padded, blocks, absorbed, absorbed_unkeyed, keystream_added, encrypted, decrypted, blanked, word_bytes, squeezed, after_squeezing};
 ghost use Rattle.strings.specs.Crypt.{after, sums, ends};
 ghost use Rattle.strings.specs.Unkeyed.{appended};
 
@@ -68,7 +68,7 @@ impl<E: Engine> Duplex<E> {
 
     // Encrypts in place.
     pub fn encrypt(&mut self, text: &mut [u8])
-        ensures sum { text.new ≡ enciphered (E.bits self.old.engine) text.old }
+        ensures sum { text.new ≡ encrypted (E.bits self.old.engine) text.old }
         ensures moved { E.bits self.new.engine ≡ absorbed (E.bits self.old.engine) text.old }
     {
         self.crypt::<Encrypt>(text);
@@ -76,9 +76,9 @@ impl<E: Engine> Duplex<E> {
 
     // Decrypts in place. From the state that encrypted a text, this gives the text back, and both sides then mean the same bits.
     pub fn decrypt(&mut self, text: &mut [u8])
-        ensures sum { text.new ≡ deciphered (E.bits self.old.engine) text.old }
-        ensures moved { E.bits self.new.engine ≡ absorbed (E.bits self.old.engine) (deciphered (E.bits self.old.engine) text.old) }
-        ensures undoes { (t : List ℕ) → text.old ≡ enciphered (E.bits self.old.engine) t → (text.new ≡ t) × (E.bits self.new.engine ≡ absorbed (E.bits self.old.engine) t) }
+        ensures sum { text.new ≡ decrypted (E.bits self.old.engine) text.old }
+        ensures moved { E.bits self.new.engine ≡ absorbed (E.bits self.old.engine) (decrypted (E.bits self.old.engine) text.old) }
+        ensures undoes { (t : List ℕ) → text.old ≡ encrypted (E.bits self.old.engine) t → (text.new ≡ t) × (E.bits self.new.engine ≡ absorbed (E.bits self.old.engine) t) }
     {
         self.crypt::<Decrypt>(text);
     }
@@ -95,7 +95,7 @@ impl<E: Engine> Duplex<E> {
     // Fills `out` with readings, each followed by an empty step; bytes over are dropped. It goes by places: nothing is known of what a slice ends as that `chunks_mut` lends.
     pub fn squeeze(&mut self, out: &mut [u8])
         ensures sum { out.new ≡ squeezed (E.bits self.old.engine) (length out.old) }
-        ensures moved { E.bits self.new.engine ≡ drained (E.bits self.old.engine) (length out.old) }
+        ensures moved { E.bits self.new.engine ≡ after_squeezing (E.bits self.old.engine) (length out.old) }
     {
         for i in (0..out.len()).step_by(4) {
             let word = self.squeeze_word();
@@ -136,7 +136,7 @@ impl<E: Engine> Duplex<E> {
     // Adds the reading to a block of at most four bytes, and steps with the text block.
     fn crypt_block<C: Cipher>(&mut self, block: &mut [u8])
         requires { length block.old ≤ 4 }
-        ensures sum { block.new ≡ masked (reading (E.bits self.old.engine)) block.old }
+        ensures sum { block.new ≡ keystream_added (reading (E.bits self.old.engine)) block.old }
         ensures moved { E.bits self.new.engine ≡ after C.rule (E.bits self.old.engine) block.old }
     {
         let given = Block { bytes: block }.number();

@@ -14,7 +14,7 @@ use Rattle.link.specs.declared.kind.Kind.TheVariants.{ZoneName, Heartbeat}
 use Rattle.link.specs.declared.fault.LinkFault.{LinkFault}
 use Rattle.link.specs.declared.fault.LinkFault.TheVariants.{Spent, Empty, UnknownKind}
 use Rattle.link.specs.Kinds.{kind_byte, text_length, kind_of}
-use Rattle.link.specs.Frames.{Standing, largest_number, overhead, associated, header_in, number_in, body_in, tag_in}
+use Rattle.link.specs.Frames.{Standing, number_limit, overhead, header_of, header_in, number_in, ciphertext_in, tag_in}
 use Rattle.link.specs.Sender.{written, writes}
 use Rattle.link.specs.Refusals.{told, in_frame}
 use Rattle.link.specs.Calls.{Checked, take_answer, wrote_pair, write_answer}
@@ -32,18 +32,18 @@ some_bytes : (f : List ℕ) (n : ℕ) → length f ≡ n + 1 → length f ≡ 0 
 some_bytes f n l z = omega arith
 
 -- a frame of a known kind
-of_kind : (m : Standing) (f : List ℕ) (room b : ℕ) (k : Kind) (n : ℕ) {e : LinkFault} → m.number < largest_number → slice_index f 0 ≡ b → kind_of b ≡ Some k → length f ≡ n + 1 → Fit m.number f room k (Err e)
+of_kind : (m : Standing) (f : List ℕ) (room b : ℕ) (k : Kind) (n : ℕ) {e : LinkFault} → m.number < number_limit → slice_index f 0 ≡ b → kind_of b ≡ Some k → length f ≡ n + 1 → Fit m.number f room k (Err e)
     → refused_by told (take_answer m f room) ≡ Some (told e)
 of_kind m f room b k n h i j l fit = by_check m f room _ (Seen.known_kind k h (some_bytes f n l) (ap kind_of i ∙ j) fit)
 
-wrong_length : (m : Standing) (f : List ℕ) (room n : ℕ) → m.number < largest_number → slice_index f 0 ≡ 6 → length f ≡ n + 1 → (n ≡ 20 → ⊥) → refused_by told (take_answer m f room) ≡ Some (refusal_of Link 4 (n + 1))
+wrong_length : (m : Standing) (f : List ℕ) (room n : ℕ) → m.number < number_limit → slice_index f 0 ≡ 6 → length f ≡ n + 1 → (n ≡ 20 → ⊥) → refused_by told (take_answer m f room) ≡ Some (refusal_of Link 4 (n + 1))
 wrong_length m f room n h i l x =
     of_kind m f room 6 Heartbeat n h i refl l (Fit.long (λ e. x (omega arith))) ∙ ap (λ p. Some (refusal_of Link 4 p)) l
 
 other_number : (m : Standing) (f : List ℕ) (room : ℕ) → m.number ≡ 3 → slice_index f 0 ≡ 6 → length f ≡ 21 → number_in f ≡ 2 ∷ 0 ∷ 0 ∷ 0 ∷ [] → refused_by told (take_answer m f room) ≡ Some (refusal_of Link 6 1)
 other_number m f room h i l e = of_kind m f room 6 Heartbeat 20 (omega arith) i refl l (Fit.other l (omega arith) (ap₂ bytes_eq e (ap word_bytes h)))
 
-other_tag : (m : Standing) (f : List ℕ) (room : ℕ) → m.number < largest_number → header_in f ≡ associated 6 m.number → length f ≡ 21 → opens m.state (header_in f) (body_in f) (tag_in f) ≡ false
+other_tag : (m : Standing) (f : List ℕ) (room : ℕ) → m.number < number_limit → header_in f ≡ header_of 6 m.number → length f ≡ 21 → opens m.state (header_in f) (ciphertext_in f) (tag_in f) ≡ false
     → refused_by told (take_answer m f room) ≡ Some (refusal_of Layer.Session 7 5)
 other_tag m [] room h i l o = absurd (omega arith)
 other_tag m (a ∷ g) room h i l o =
@@ -57,13 +57,13 @@ other_tag m (a ∷ g) room h i l o =
 wrote_answer : (m : Standing) (b : ℕ) (t : List ℕ) (room : ℕ) (r : Checked) → Vetted m.number b t room r → write_answer m b t room ≡ wrote_pair m r
 wrote_answer m b t room r v = ap (wrote_pair m) (sym (vetted_is m.number b t room r v))
 
-writes_none : (m : Standing) (b : ℕ) (t : List ℕ) → m.number ≡ largest_number → writes m b t ≡ None
+writes_none : (m : Standing) (b : ℕ) (t : List ℕ) → m.number ≡ number_limit → writes m b t ≡ None
 unfolding writes
 writes_none m b t h = at (kind_of b)
   where
     at : (o : Option Kind) → written m o t ≡ None
     at None = refl
-    at (Some k) = rw (le-ltb m.number largest_number (omega arith)) refl
+    at (Some k) = rw (le-ltb m.number number_limit (omega arith)) refl
 
 pub returns : goal.returns
 returns c =
