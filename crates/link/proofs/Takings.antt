@@ -1,5 +1,5 @@
 -- What the checks on a frame and its opening answer, case by case.
-use Rattle.std.proofs.Common.{◌≡◌, ℕ, ◌+◌, ◌<◌, ◌≤◌, Bool, true, false, cond, eqb, ltb, List, ◌++◌, length, get_or, drop, replicate, Some, None, Ok, Err, Option, sym, refl, ap, ◌∙◌, subst, arith}
+use Rattle.std.proofs.Common.{◌≡◌, ℕ, ◌+◌, ◌<◌, ◌≤◌, Bool, true, false, cond, eqb, ltb, List, length, get_or, Some, None, Ok, Err, Option, sym, refl, ap, ◌∙◌, subst, arith}
 use Rattle.std.specs.Str.{bytes_eq}
 use Rattle.std.proofs.lemmas.List.{length-take, length-drop}
 use Rattle.std.proofs.lemmas.Bool.{lt-ltb, le-ltb, eq-eqb, ne_eqb, ltb-true, ltb-false, eqb-true, eqb-false}
@@ -8,7 +8,7 @@ use Rattle.session.specs.declared.fault.SessionFault.{SessionFault}
 use Rattle.session.specs.declared.fault.SessionFault.TheVariants.{Tag}
 use Rattle.session.specs.Sessions.{opens}
 use Rattle.session.specs.Calls.{open_answer, open_out, verdict}
-use Rattle.session.proofs.SessionLaws.{open_fits, length-plaintext}
+use Rattle.session.proofs.SessionLaws.{open_fits}
 use Rattle.link.specs.declared.kind.Kind.{Kind}
 use Rattle.link.specs.declared.fault.LinkFault.{LinkFault}
 use Rattle.link.specs.declared.fault.LinkFault.TheVariants.{Spent, Empty, UnknownKind, WrongLength, ShortBuffer, WrongNumber, Session}
@@ -152,4 +152,4 @@ module _ (m : Standing) (f old s header body tag : List ℕ) (k : Kind) (same : 
 
   -- the zeros that it leaves
   pub zeroed : (y : SessionFault) → y ≡ Tag (length (ciphertext_in f)) → open_out s header body old (Err y) ≡ take_text m f old (Err (Session y))
-  zeroed y e = rw (e, same, eh, eb) (ap (λ n. replicate n 0 ++ drop (length (ciphertext_in f)) old) (length-plaintext m.state (header_in f) (ciphertext_in f)))
+  zeroed y e = rw e refl

@@ -1,10 +1,10 @@
 -- What the calls of a session promise: the answer, and then the bits, the buffer and the tag after that answer.
-use Rattle.std.specs.Prelude.{◌≡◌, ℕ, ◌≤◌, Bool, true, false, cond, List, ◌++◌, length, take, drop, Ok, Err, Result, nat_lt}
+use Rattle.std.specs.Prelude.{◌≡◌, ℕ, ◌≤◌, Bool, cond, List, ◌++◌, length, take, drop, replicate, Ok, Err, Result, nat_lt}
 use Rattle.session.specs.declared.fault.SessionFault.{SessionFault}
 use Rattle.session.specs.declared.fault.SessionFault.TheVariants.{Short, Tag}
 use Rattle.session.specs.declared.sealing.Keyed.{Keyed}
 use Rattle.session.specs.declared.sealing.Session.{Session}
-use Rattle.session.specs.Sessions.{ciphertext_of, tag_of, after_sealing, plaintext_of, opens, shown}
+use Rattle.session.specs.Sessions.{ciphertext_of, tag_of, after_sealing, plaintext_of, opens}
 
 -- where a keyed state and a session stand, by what the engine means
 module _ {E : Type 0} (bits : E → List ℕ) where
@@ -51,8 +51,8 @@ open_bits s ad c (Err (Tag n)) = after_sealing s ad (plaintext_of s ad c)
 open_bits s ad c (Err (Short n)) = s
 
 abbrev pub open_out : List ℕ → List ℕ → List ℕ → List ℕ → Answer → List ℕ
-open_out s ad c old (Ok n) = shown true (plaintext_of s ad c) ++ drop n old
-open_out s ad c old (Err (Tag n)) = shown false (plaintext_of s ad c) ++ drop n old
+open_out s ad c old (Ok n) = plaintext_of s ad c ++ drop n old
+open_out s ad c old (Err (Tag n)) = replicate n 0 ++ drop n old
 open_out s ad c old (Err (Short n)) = old
 
 -- Two theorems on an opening that answers r, after which the bits are s' and the buffer, which held old, holds new.
