@@ -6,13 +6,13 @@ mod words;
 
 use cli::report;
 use fault::{Fault, Subject};
-use sealed::{Secret, open, seal};
+use sealed::{open, seal};
 use session::{Key, Nonce};
 use std::alloc::Global;
 use std::process::ExitCode;
 use std::str::FromStr;
 use std::{env, fs, io};
-use words::{bytes, sixteen};
+use words::{hex_bytes, sixteen_bytes};
 
 const HELP: &str = "usage: seal seal KEY NONCE AD IN OUT
        seal open KEY NONCE AD IN OUT
@@ -22,8 +22,9 @@ seal   encrypts the bytes of file IN and writes them to file OUT, a tag of 16 by
 open   checks the tag of such a file IN and writes the decrypted bytes to file OUT
 
 KEY and NONCE are 32 hex digits each, AD an even number of them or '' for none. Never seal
-two files under the same key and nonce. A refusal says why, ends with status 1, and leaves
-OUT alone.";
+two files under the same key and nonce. A refusal says why and ends with status 1. It leaves
+OUT alone, except that writing OUT may fail half-way, and that OUT is already written where
+the closing line cannot be printed.";
 
 // What is done to the bytes of a file.
 #[derive(Clone, Copy)]
@@ -49,18 +50,6 @@ fn done<T: Drop>(subject: Subject, outcome: io::Result<T>) -> Result<T, Fault> {
     outcome.map_err(|error| Fault::File { subject, error })
 }
 
-fn secret_of(heap: Global, key: &str, nonce: &str, ad: &str) -> Result<Secret, Fault> {
-    Ok(Secret {
-        key: Key {
-            bytes: sixteen(Subject::Key, key)?,
-        },
-        nonce: Nonce {
-            bytes: sixteen(Subject::Nonce, nonce)?,
-        },
-        ad: bytes(heap, Subject::Ad, ad)?,
-    })
-}
-
 // Carries out the command of these words.
 fn carry_out(rt: &HostRuntime, words: &[String]) -> Result<(), Fault> {
     let [verb, key, nonce, ad, from, to] = words else {
@@ -68,11 +57,23 @@ fn carry_out(rt: &HostRuntime, words: &[String]) -> Result<(), Fault> {
     };
     let heap = rt.alloc();
     let task = verb.as_str().parse::<Task>()?;
-    let secret = secret_of(heap, key.as_str(), nonce.as_str(), ad.as_str())?;
+    let key = Key {
+        bytes: sixteen_bytes(Subject::Key, key.as_str())?,
+    };
+    let nonce = Nonce {
+        bytes: sixteen_bytes(Subject::Nonce, nonce.as_str())?,
+    };
+    let ad = hex_bytes(heap, Subject::Ad, ad.as_str())?;
     let input = done(Subject::In, fs::read(rt, from.as_str()))?;
     let (did, output) = match task {
-        Task::Seal => ("sealed", seal(heap, &secret, input.as_slice())?),
-        Task::Open => ("opened", open(heap, &secret, input.as_slice())?),
+        Task::Seal => (
+            "sealed",
+            seal(heap, &key, &nonce, ad.as_slice(), input.as_slice())?,
+        ),
+        Task::Open => (
+            "opened",
+            open(heap, &key, &nonce, ad.as_slice(), input.as_slice())?,
+        ),
     };
     done(Subject::Out, fs::write(rt, to.as_str(), output.as_slice()))?;
     let (given, made) = (input.len(), output.len());

@@ -1,11 +1,12 @@
 // Words of hex digits, and what is told of a wrong one.
-ghost use Rattle.std.specs.Prelude.{◌≡◌, MatchResult};
-ghost use Rattle.digits.specs.Pairs.{unhex};
-ghost use Rattle.sealed.specs.Words.{key_fault, Decoded};
-ghost use Rattle.seal.specs.Words.{told_of, by_fault, NotDecoded};
+ghost use Rattle.std.specs.Prelude.{◌≡◌, ◌⊎◌, MatchResult, Ok, Err};
+ghost use Rattle.std.specs.Result.{result_map_both};
+ghost use Rattle.sealed.specs.Words.{written_bytes, written_sixteen};
+ghost use Rattle.seal.specs.declared.fault.Fault.TheVariants.{Hex, Memory};
+ghost use Rattle.seal.specs.Words.{told_of};
 
 use crate::fault::{Fault, Subject};
-use sealed::{WordFault, word_bytes};
+use sealed::WordFault;
 use std::alloc::Global;
 
 fn of_word(subject: Subject, fault: WordFault) -> Fault
@@ -17,16 +18,16 @@ fn of_word(subject: Subject, fault: WordFault) -> Fault
     }
 }
 
-// The bytes that a word writes.
-pub fn bytes(heap: Global, subject: Subject, digits: &str) -> Result<Vec<u8>, Fault>
-    ensures { MatchResult result (λ v. Decoded digits.now v.items) (NotDecoded subject digits.now) }
+// The bytes that a word writes, unless there is no memory for them.
+pub fn hex_bytes(heap: Global, subject: Subject, digits: &str) -> Result<Vec<u8>, Fault>
+    ensures { MatchResult result (λ v. Ok v.items ≡ written_bytes digits.now) (λ e. (e ≡ Memory) ⊎ (Err e ≡ result_map_both (λ b. b) (told_of subject) (written_bytes digits.now))) }
 {
-    word_bytes(heap, digits.as_bytes()).map_err(|fault| of_word(subject, fault))
+    sealed::hex_bytes(heap, digits.as_bytes()).map_err(|fault| of_word(subject, fault))
 }
 
 // The 16 bytes that a word writes.
-pub fn sixteen(subject: Subject, digits: &str) -> Result<[u8; 16], Fault>
-    ensures { result ≡ by_fault subject (key_fault digits.now) (unhex digits.now) }
+pub fn sixteen_bytes(subject: Subject, digits: &str) -> Result<[u8; 16], Fault>
+    ensures { result ≡ result_map_both (λ b. b) (Hex subject) (written_sixteen digits.now) }
 {
-    sealed::sixteen(digits.as_bytes()).map_err(|fault| Fault::Hex { subject, fault })
+    sealed::sixteen_bytes(digits.as_bytes()).map_err(|fault| Fault::Hex { subject, fault })
 }

@@ -1,4 +1,4 @@
--- Digits that write a key.
+-- Digits that write 16 bytes.
 use Rattle.std.proofs.Common.{◌≡◌, ℕ, Bool, true, false, cond, eqb, List, length, is_some, is_ok, Some, None, Ok, Err, Option, sym, refl, ap, ◌∙◌, arith}
 use Rattle.std.specs.Option.{option_or}
 use Rattle.std.proofs.lemmas.Bool.{eqb-true, true≢false}
@@ -7,17 +7,17 @@ use Rattle.digits.specs.Pairs.{unhex, laid}
 use Rattle.digits.proofs.HexLaws.{laid_whole, length-unhex}
 use Rattle.sealed.specs.declared.fault.HexFault.{HexFault}
 use Rattle.sealed.specs.declared.fault.HexFault.TheVariants.{Count}
-use Rattle.sealed.specs.Words.{hex_fault, key_fault, by_fault, unless}
+use Rattle.sealed.specs.Words.{hex_fault, sixteen_fault, unless, written_sixteen}
 
 -- what passes a check has no fault
-pub sound : (o : Option HexFault) (u : Unit {0}) → Ok u ≡ unless o → o ≡ None
+pub sound : (o : Option HexFault) (u : Unit {0}) → Ok u ≡ unless o tt → o ≡ None
 sound None u e = refl
 sound (Some fault) u e = absurd (true≢false (ap is_ok e))
 
 -- what a check refuses has its fault
-pub refused : (o : Option HexFault) (fault : HexFault) (bytes : List ℕ) → Err fault ≡ unless o → Err fault ≡ by_fault o bytes
-refused None fault bytes e = absurd (true≢false (ap is_ok (sym e)))
-refused (Some other) fault bytes e = let same : fault ≡ other = cc in ap Err same
+pub refused : (o : Option HexFault) (fault : HexFault) → Err fault ≡ unless {A = Unit {0}} o tt → o ≡ Some fault
+refused None fault e = absurd (true≢false (ap is_ok (sym e)))
+refused (Some other) fault e = cc
 
 right_count : (o : Option HexFault) (t : Bool) (fault : HexFault) → option_or o (cond t None (Some fault)) ≡ None → t ≡ true
 right_count (Some other) t fault e = absurd (true≢false (ap is_some e))
@@ -25,7 +25,7 @@ right_count None true fault e = refl
 right_count None false fault e = absurd (true≢false (ap is_some e))
 
 -- good digits fill 16 bytes
-pub key_written : (digits old out : List ℕ) → key_fault digits ≡ None → length old ≡ 16 → out ≡ laid (unhex digits) old → Ok out ≡ by_fault (key_fault digits) (unhex digits)
-key_written digits old out good room so =
+pub sixteen_written : (digits old out : List ℕ) → sixteen_fault digits ≡ None → length old ≡ 16 → out ≡ laid (unhex digits) old → Ok out ≡ written_sixteen digits
+sixteen_written digits old out good room so =
     let n : length digits ≡ 32 = eqb-true (length digits) 32 (right_count (hex_fault digits) (eqb (length digits) 32) (Count (length digits)) good) in
-    ap Ok (so ∙ laid_whole (unhex digits) old (omega (arith, length-unhex Either digits))) ∙ ap (λ o. by_fault o (unhex digits)) (sym good)
+    ap Ok (so ∙ laid_whole (unhex digits) old (omega (arith, length-unhex Either digits))) ∙ ap (λ o. unless o (unhex digits)) (sym good)

@@ -1,7 +1,7 @@
 // Sealed bytes: a ciphertext, and its tag after it.
-ghost use Rattle.std.specs.Prelude.{◌≡◌, MatchResult};
+ghost use Rattle.std.specs.Prelude.{◌≡◌, ◌⊎◌, MatchResult, Ok, Err};
 ghost use Rattle.session.specs.Sessions.{begun};
-ghost use Rattle.sealed.specs.Bytes.{sealed_bytes, NotOpened};
+ghost use Rattle.sealed.specs.Bytes.{sealed_bytes, opened_file, OpensSealed};
 ghost use Rattle.sealed.specs.declared.fault.SealedFault.TheVariants.{Memory};
 
 use crate::fault::SealedFault;
@@ -9,35 +9,41 @@ use plain::Plain;
 use session::{Key, Nonce, Session, Tag};
 use std::alloc::Global;
 
-#[derive(Drop)]
-pub struct Secret {
-    pub key: Key,
-    pub nonce: Nonce,
-    pub ad: Vec<u8>,
-}
-
-pub fn seal(heap: Global, secret: &Secret, text: &[u8]) -> Result<Vec<u8>, SealedFault>
-    ensures { MatchResult result (λ v. v.items ≡ sealed_bytes (begun secret.now.key.bytes secret.now.nonce.bytes) secret.now.ad.items text.now) (λ e. e ≡ Memory) }
+pub fn seal(
+    heap: Global,
+    key: &Key,
+    nonce: &Nonce,
+    ad: &[u8],
+    text: &[u8],
+) -> Result<Vec<u8>, SealedFault>
+    ensures { MatchResult result (λ v. v.items ≡ sealed_bytes (begun key.now.bytes nonce.now.bytes) ad.now text.now) (λ e. e ≡ Memory) }
 {
-    let mut session = Session::<Plain>::begin(&secret.key, &secret.nonce);
+    let mut session = Session::<Plain>::begin(key, nonce);
     let mut sealed = vec![in heap; 0; text.len()]?;
     let mut tag = Tag { bytes: [0; 16] };
-    session.seal(secret.ad.as_slice(), text, sealed.as_mut_slice(), &mut tag)?;
+    session.seal(ad, text, sealed.as_mut_slice(), &mut tag)?;
     sealed.extend_from_slice(&tag.bytes)?;
     Ok(sealed)
 }
 
-// What opens is what sealing these bytes gives.
-pub fn open(heap: Global, secret: &Secret, sealed: &[u8]) -> Result<Vec<u8>, SealedFault>
-    ensures { MatchResult result (λ v. sealed.now ≡ sealed_bytes (begun secret.now.key.bytes secret.now.nonce.bytes) secret.now.ad.items v.items) (NotOpened (begun secret.now.key.bytes secret.now.nonce.bytes) secret.now.ad.items sealed.now) }
+// The text of sealed bytes, unless there is no memory for it.
+pub fn open(
+    heap: Global,
+    key: &Key,
+    nonce: &Nonce,
+    ad: &[u8],
+    sealed: &[u8],
+) -> Result<Vec<u8>, SealedFault>
+    ensures value { MatchResult result (λ v. Ok v.items ≡ opened_file (begun key.now.bytes nonce.now.bytes) ad.now sealed.now) (λ e. (e ≡ Memory) ⊎ (Err e ≡ opened_file (begun key.now.bytes nonce.now.bytes) ad.now sealed.now)) }
+    ensures only { OpensSealed (begun key.now.bytes nonce.now.bytes) ad.now sealed.now }
 {
     let length = sealed.len();
     let Some((ciphertext, tag)) = sealed.split_last_chunk::<16>() else {
         return Err(SealedFault::Tagless { length });
     };
     let tag = Tag { bytes: *tag };
-    let mut session = Session::<Plain>::begin(&secret.key, &secret.nonce);
+    let mut session = Session::<Plain>::begin(key, nonce);
     let mut text = vec![in heap; 0; ciphertext.len()]?;
-    session.open(secret.ad.as_slice(), ciphertext, &tag, text.as_mut_slice())?;
+    session.open(ad, ciphertext, &tag, text.as_mut_slice())?;
     Ok(text)
 }

@@ -5,6 +5,6 @@ mod bytes;
 mod fault;
 mod words;
 
-pub use bytes::{Secret, open, seal};
+pub use bytes::{open, seal};
 pub use fault::{HexFault, SealedFault, WordFault};
-pub use words::{sixteen, word_bytes};
+pub use words::{hex_bytes, sixteen_bytes};

@@ -1,7 +1,7 @@
 // Words of hex digits.
-ghost use Rattle.std.specs.Prelude.{◌≡◌, MatchResult};
-ghost use Rattle.digits.specs.Pairs.{unhex};
-ghost use Rattle.sealed.specs.Words.{hex_fault, key_fault, by_fault, unless, Decoded, NotDecoded};
+ghost use Rattle.std.specs.Prelude.{◌≡◌, ◌⊎◌, MatchResult, Ok, Err};
+ghost use Rattle.sealed.specs.Words.{hex_fault, sixteen_fault, unless, written_bytes, written_sixteen};
+ghost use Rattle.sealed.specs.declared.fault.WordFault.TheVariants.{Memory};
 
 use crate::fault::{HexFault, WordFault};
 use digits::{Letters, bad_place, bytes, decode};
@@ -9,7 +9,7 @@ use std::alloc::Global;
 
 // Refuses what spoils digits that are to write bytes. The programs `digest` and `rehearse` tell the two cases in their own words, by the same one comparison.
 fn check(digits: &[u8]) -> Result<(), HexFault>
-    ensures { result ≡ unless (hex_fault digits.now) }
+    ensures { result ≡ unless (hex_fault digits.now) tt }
 {
     let Some(place) = bad_place(Letters::Either, digits) else {
         return Ok(());
@@ -23,8 +23,8 @@ fn check(digits: &[u8]) -> Result<(), HexFault>
 }
 
 // Refuses what spoils digits that are to write 16 bytes.
-fn check_key(digits: &[u8]) -> Result<(), HexFault>
-    ensures { result ≡ unless (key_fault digits.now) }
+fn check_sixteen(digits: &[u8]) -> Result<(), HexFault>
+    ensures { result ≡ unless (sixteen_fault digits.now) tt }
 {
     check(digits)?;
     if digits.len() != 32 {
@@ -35,19 +35,19 @@ fn check_key(digits: &[u8]) -> Result<(), HexFault>
     Ok(())
 }
 
-// The bytes that a word writes.
-pub fn word_bytes(heap: Global, digits: &[u8]) -> Result<Vec<u8>, WordFault>
-    ensures { MatchResult result (λ v. Decoded digits.now v.items) (NotDecoded digits.now) }
+// The bytes that a word writes, unless there is no memory for them.
+pub fn hex_bytes(heap: Global, digits: &[u8]) -> Result<Vec<u8>, WordFault>
+    ensures { MatchResult result (λ v. Ok v.items ≡ written_bytes digits.now) (λ e. (e ≡ Memory) ⊎ (Err e ≡ written_bytes digits.now)) }
 {
     check(digits)?;
     Ok(bytes(heap, digits)?)
 }
 
-// The 16 bytes that a word writes.
-pub fn sixteen(digits: &[u8]) -> Result<[u8; 16], HexFault>
-    ensures { result ≡ by_fault (key_fault digits.now) (unhex digits.now) }
+// The 16 bytes that a word writes, as of a key or a nonce.
+pub fn sixteen_bytes(digits: &[u8]) -> Result<[u8; 16], HexFault>
+    ensures { result ≡ written_sixteen digits.now }
 {
-    check_key(digits)?;
+    check_sixteen(digits)?;
     let mut bytes = [0; 16];
     decode(digits, &mut bytes);
     Ok(bytes)

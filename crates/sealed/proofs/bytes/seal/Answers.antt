@@ -1,5 +1,5 @@
 -- The ciphertext in the vector, and the tag after it.
-use Rattle.std.proofs.Common.{◌++◌, ◌∙◌, ap₂, arith}
+use Rattle.std.proofs.Common.{◌++◌, ap, ◌∙◌, ap₂, arith}
 use Rattle.sealed.specs.Bytes.{sealed_bytes}
 use Rattle.sealed.proofs.SealedBytes.{sealed_front, never_short}
 use Rattle.sealed.proofs.bytes.seal.Goals as goal
@@ -12,7 +12,7 @@ returns c =
     ∙ (ap₂ (λ x y. x ++ y)
     (sealed_front _ _ _ _ _ _ _ _ length-is c.as_mut_slice.ensures.len value c.in_ok-seal.ensures.out)
     c.in_ok-seal.ensures.tag
-    ∙ ap₂ (λ s ad. sealed_bytes s ad c.args.text.now) c.begin-session.ensures c.as_slice.ensures.value)
+    ∙ ap (λ s. sealed_bytes s c.args.ad.now c.args.text.now) c.begin-session.ensures)
 
 pub returns-in_err-seal : goal.returns-in_err-seal
 returns-in_err-seal c =
