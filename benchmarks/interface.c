@@ -6,10 +6,10 @@
 #include <string.h>
 #include <ucontext.h>
 
-enum { LONGEST_FRAME = COWSLIP_LONGEST_TEXT + COWSLIP_FRAME_OVERHEAD, MOST = 1 << 16 };
+enum { MOST = 1 << 16 };
 
 static uint8_t key[16], nonce[16], tag[16], session[34], opening[34], sender[38], receiver[38];
-static uint8_t text[MOST], out[MOST], ciphertext[MOST], frame[LONGEST_FRAME];
+static uint8_t text[MOST], out[MOST], ciphertext[MOST], frame[COWSLIP_LONGEST_FRAME];
 static cowslip_entry whole;
 static size_t told[2], size;
 static uint8_t kind;

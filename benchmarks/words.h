@@ -21,6 +21,7 @@ static void twice(const uint32_t a[9], uint32_t row[18]) {
     row[8] = a[8] | a[0] << 1;
     for (int k = 0; k < 8; k++)
         row[9 + k] = a[k] >> 31 | a[k + 1] << 1;
+    row[17] = 0; /* no bit of it comes into a rotation */
 }
 
 /* the bits from bit d on */

@@ -2,8 +2,9 @@
  *
  *     fuzz [CASES [SEED]]      100,000 cases and a fixed seed where none are given
  *
- * A case is one call of each of the two, with the same arguments. Afterwards the number returned and every byte of
- * every slice must be the same, and nothing around a slice may have changed. Each slice lies in an area of its own
+ * A case is one call of each of the two, with the same arguments. Afterwards the library must have returned what the
+ * header calls the reference's number, every byte of every slice must be the same, and nothing around a slice may have
+ * changed. Each slice lies in an area of its own
  * between two pages that cannot be read or written: at its front, at its back or somewhere between. Pairs of ends and
  * of sessions live over many calls. The first difference is printed with the seed, the case, the call and its
  * arguments; the status is then 1. It is 1 too where some refusal that a function can give was not seen, as with very
@@ -44,6 +45,21 @@ static const struct {
     [RECEIVER_TAKE] = {"receiver_take", {0, 1, 2, 3, 4, 5, 6, 7, 30, 31, -1}},
     [SENDER_TELL] = {"sender_tell", {0, 30, 31, -1}},
     [RECEIVER_TELL] = {"receiver_tell", {0, 30, 31, -1}},
+};
+
+/* What the header calls the numbers that the reference returns. */
+static const uint32_t NAMED[NUMBERS] = {
+    [0] = COWSLIP_ACCEPTED,
+    [1] = COWSLIP_NUMBER_SPENT,
+    [2] = COWSLIP_EMPTY_FRAME,
+    [3] = COWSLIP_UNKNOWN_KIND,
+    [4] = COWSLIP_WRONG_LENGTH,
+    [5] = COWSLIP_SHORT_BUFFER,
+    [6] = COWSLIP_WRONG_NUMBER,
+    [7] = COWSLIP_TAG_DIFFERS,
+    [8] = COWSLIP_ENTRY_OUTSIDE,
+    [30] = COWSLIP_ARGUMENT_LENGTH,
+    [31] = COWSLIP_NO_STATE,
 };
 
 static uint64_t seed = 20261118;
@@ -315,10 +331,10 @@ static void compare_around(const struct slice *s, enum side side)
 
 static void compare(void)
 {
-    if (returned[LIBRARY] != returned[REFERENCE])
-        fail("another number returned", "");
     if (!can_return(call.function, returned[REFERENCE]))
         fail("a number that cannot be", "");
+    if (returned[LIBRARY] != NAMED[returned[REFERENCE]])
+        fail("another number returned", "");
     for (size_t i = 0; i < call.slices; i++) {
         const struct slice *s = &call.slice[i];
         compare_around(s, LIBRARY);
@@ -680,6 +696,19 @@ enum { LINKS = 6, KEPT_FRAMES = 8 };
 
 static const size_t TEXT_LENGTH[7] = {0, 4, 6, 3, 7, 32, 0};
 
+/* The lengths in the header that are for callers alone. */
+static void check_longest(void)
+{
+    size_t longest = 0;
+    for (size_t kind = 1; kind <= 6; kind++)
+        if (TEXT_LENGTH[kind] > longest)
+            longest = TEXT_LENGTH[kind];
+    if (COWSLIP_LONGEST_TEXT == longest && COWSLIP_LONGEST_FRAME == longest + COWSLIP_FRAME_OVERHEAD)
+        return;
+    printf("fuzz: the header has another longest text or frame\n");
+    exit(1);
+}
+
 static struct link_pair {
     enum stage stage;
     uint8_t key[COWSLIP_KEY_SIZE], nonce[COWSLIP_NONCE_SIZE];
@@ -889,6 +918,7 @@ int main(int count, char **words)
     if (count > 2)
         seed = number_from(words[2]);
     random_state = seed;
+    check_longest();
     signal(SIGSEGV, on_signal);
     signal(SIGBUS, on_signal);
     signal(SIGILL, on_signal);

@@ -255,9 +255,11 @@ static uint32_t accepted(size_t answer, size_t *told, size_t told_len)
 /* The first entry that reaches past the buffer, or how many entries there are. */
 static size_t first_outside(const cowslip_entry *entries, size_t entries_len, size_t buffer_len)
 {
-    for (size_t i = 0; i < entries_len; i++)
-        if (entries[i].start > buffer_len || entries[i].length > buffer_len - entries[i].start)
+    for (size_t i = 0; i < entries_len; i++) {
+        size_t end = entries[i].start + entries[i].length;
+        if (end < entries[i].start || end > buffer_len) /* the sum wraps around, or is too large */
             return i;
+    }
     return entries_len;
 }
 

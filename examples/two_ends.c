@@ -12,7 +12,7 @@
 #include "cowslip.h"
 
 struct frame {
-    uint8_t bytes[COWSLIP_LONGEST_TEXT + COWSLIP_FRAME_OVERHEAD];
+    uint8_t bytes[COWSLIP_LONGEST_FRAME];
     size_t length;
     size_t number;
 };

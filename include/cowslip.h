@@ -155,7 +155,7 @@ uint32_t cowslip_session_begin(const uint8_t *key, size_t key_len,
  *           session stands where sealing leaves it, the seven high bits of its byte 33 being 0.
  * REFUSALS  30: `session` (place 0) has not 34 bytes, or `tag` (4) not 16.
  *           31: `session` holds no session.
- *           5: `out` is shorter than the text.
+ *           5: `out` is shorter than the text. Place: out_len.
  *           The session, `out` and `tag` stay.
  * TOLD      the text's length.
  */
@@ -168,15 +168,16 @@ uint32_t cowslip_session_seal(uint8_t *session, size_t session_len,
 
 /* Opens a ciphertext with its associated data and its tag.
  *
- * ACCEPTED  The first ciphertext_len bytes of `out` are the text, those after them stay; the session stands where the
- *           sealing one stood afterwards, the seven high bits of its byte 33 being 0.
+ * ACCEPTED  The first ciphertext_len bytes of `out` are the text, those after them stay; the session stands where
+ *           sealing this text would have left it, the seven high bits of its byte 33 being 0. What sealing a text where
+ *           the session stands has written is always accepted, and nothing else is.
  * REFUSALS  30: `session` (place 0) has not 34 bytes, or `tag` (3) not 16. All stays.
  *           31: `session` holds no session. All stays.
- *           5: `out` is shorter than the ciphertext. All stays.
- *           7: the tag differs. The first ciphertext_len bytes of `out` are 0, those after them stay, and the session
- *           has moved on by the ciphertext and associated data that were handed over, the seven high bits of its byte
- *           33 being 0. It stands where the sealing one does if these were as sealed and the tag alone was not;
- *           otherwise do not count on what was sealed next to open.
+ *           5: `out` is shorter than the ciphertext. All stays. Place: out_len.
+ *           7: the tag differs. Place: ciphertext_len. The first ciphertext_len bytes of `out` are 0, those after them
+ *           stay, and the session has moved on by the ciphertext and associated data that were handed over, the seven
+ *           high bits of its byte 33 being 0. It stands where sealing left the other one if these were as sealed and
+ *           the tag alone was not; otherwise do not count on what was sealed next to open.
  * TOLD      the ciphertext's length.
  */
 uint32_t cowslip_session_open(uint8_t *session, size_t session_len,
@@ -229,8 +230,9 @@ uint32_t cowslip_receiver_begin(const uint8_t *key, size_t key_len,
                                 uint8_t *end, size_t end_len,
                                 size_t *told, size_t told_len);
 
-/* Takes a frame: opens it if it is the next one that the sending end wrote under this key and nonce, and raises the
- * number by one. After a refusal that frame is still accepted.
+/* Takes a frame: opens it if a sending end that stands where this end stands could write it next, and raises the number
+ * by one. So the frames that the sending end under this key and nonce writes are accepted in their order. A refusal
+ * leaves the end where it is, so the frame that is due is still accepted after it.
  *
  * ACCEPTED  The first frame_len - 21 bytes of `text` are the text, those after them stay; the end stands after the
  *           frame, the seven high bits of its byte 33 being 0.

@@ -8,8 +8,8 @@ use Rattle.std.proofs.lemmas.Bool.{eq-eqb, le-ltb}
 use Rattle.duplex.specs.Bytes.{byte_of_state, bytes_of_state, state_of_bytes}
 use Rattle.duplex.specs.Strings.{word_bytes}
 use Rattle.link.specs.Frames.{Standing, number_limit}
-use Rattle.cowslip.specs.declared.fault.CallFault.TheVariants.{Memory}
-use Rattle.cowslip.specs.Memory.{session_mark, kept_session, kept_end, bits_in, session_in, number_at, with_number, end_in}
+use Rattle.cowslip.specs.declared.fault.CallFault.TheVariants.{NoState}
+use Rattle.cowslip.specs.Memory.{session_mark, kept_session, kept_end, bits_in, session_in, number_at, standing_at, end_in}
 
 -- a mark, and bytes behind it
 pub marked : (mark : ℕ) (bytes old : List ℕ) → 1 ≤ length old → put_mid 1 33 (set old 0 mark) bytes ≡ mark ∷ (bytes ++ drop 34 old)
@@ -29,7 +29,7 @@ bits_found : (mark : ℕ) (s rest : List ℕ) → state_of_bytes (bytes_of_state
 bits_found mark s rest back =
     let bytes = bytes_of_state s in
     let front : take 33 (bytes ++ rest) ≡ bytes = take-append-le 33 bytes rest (omega (arith, length-bytes s)) ∙ take_all 33 bytes (omega (arith, length-bytes s)) in
-    ap (λ b. cond b (Ok (state_of_bytes (take 33 (bytes ++ rest)))) (Err Memory)) (eq-eqb mark mark refl) ∙ ap Ok (ap state_of_bytes front ∙ back)
+    ap (λ b. cond b (Ok (state_of_bytes (take 33 (bytes ++ rest)))) (Err NoState)) (eq-eqb mark mark refl) ∙ ap Ok (ap state_of_bytes front ∙ back)
 
 pub session_found : (s : List ℕ) → state_of_bytes (bytes_of_state s) ≡ s → session_in (kept_session s) ≡ Ok s
 session_found s back = ap (λ r. session_in (session_mark ∷ r)) (sym (append-nil (bytes_of_state s))) ∙ bits_found session_mark s [] back
@@ -44,14 +44,14 @@ number_found mark m h =
 
 pub end_found : (mark : ℕ) (m : Standing) → state_of_bytes (bytes_of_state m.state) ≡ m.state → m.number ≤ number_limit → end_in mark (kept_end mark m) ≡ Ok m
 end_found mark m back h =
-    ap₂ with_number (number_found mark m h) (bits_found mark m.state (word_bytes m.number) back)
-    ∙ ap (λ b. cond b (Err Memory) (Ok m)) (le-ltb number_limit m.number h)
+    ap₂ standing_at (number_found mark m h) (bits_found mark m.state (word_bytes m.number) back)
+    ∙ ap (λ b. cond b (Err NoState) (Ok m)) (le-ltb number_limit m.number h)
 
 -- a number of four bytes behind the bits
-pub with_number_put : (mark : ℕ) (s old number : List ℕ) → length old ≡ 38
+pub number_put : (mark : ℕ) (s old number : List ℕ) → length old ≡ 38
     → put_mid 34 4 (mark ∷ (bytes_of_state s ++ drop 34 old)) number ≡ mark ∷ (bytes_of_state s ++ number)
 unfolding bytes_of_state
-with_number_put mark s old number long =
+number_put mark s old number long =
     let bytes = bytes_of_state s in
     let rest = drop 34 old in
     let size = length-bytes s in

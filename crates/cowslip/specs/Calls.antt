@@ -37,18 +37,13 @@ numbers_told (Err e) old = slice_set old 0 (told e).place
 abbrev pub Reports : Outcome → ℕ → List ℕ → List ℕ → Type 0
 Reports outcome returned old new = (returned ≡ status outcome) × (new ≡ numbers_told outcome old)
 
--- a buffer where an outcome is good, and where it is not
-abbrev pub by_outcome : {A E : Type 0} → Result A E → List ℕ → List ℕ → List ℕ
-by_outcome (Ok a) new old = new
-by_outcome (Err e) new old = old
-
--- The outcome of a call, and a buffer after it, by what the call finds in its memory: a refused call leaves buffers alone.
-
+-- The outcome of a call by what it finds in its memory.
 abbrev pub outcome_with : {A : Type 0} → Result A CallFault → (A → Outcome) → Outcome
 outcome_with (Ok x) f = f x
 outcome_with (Err e) f = Err e
 
-abbrev pub buffer_with : {A : Type 0} → Result A CallFault → (A → List ℕ) → List ℕ → List ℕ
+-- a buffer after a call: what was found says what it becomes, and a refusal leaves it as it was
+abbrev pub buffer_with : {A E : Type 0} → Result A E → (A → List ℕ) → List ℕ → List ℕ
 buffer_with (Ok x) f old = f x
 buffer_with (Err e) f old = old
 
@@ -58,12 +53,12 @@ abbrev pub begin_outcome : ℕ → List ℕ → List ℕ → List ℕ → Outcom
 begin_outcome size key nonce memory = sized 0 16 (length key) (sized 1 16 (length nonce) (sized 2 size (length memory) (Ok Nothing)))
 
 abbrev pub begin_memory : ℕ → List ℕ → List ℕ → List ℕ → List ℕ → List ℕ
-begin_memory size key nonce kept memory = by_outcome (begin_outcome size key nonce memory) kept memory
+begin_memory size key nonce kept memory = buffer_with (begin_outcome size key nonce memory) (λ a. kept) memory
 
 -- Sessions. The bits that a call finds: the memory is its first argument, and the tag is one of the others.
 
 abbrev pub session_for : List ℕ → ℕ → ℕ → Result (List ℕ) CallFault
-session_for memory argument tag = sized 0 session_size (length memory) (sized argument 16 tag (session_in memory))
+session_for memory argument tag_length = sized 0 session_size (length memory) (sized argument 16 tag_length (session_in memory))
 
 abbrev pub of_session : Result ℕ SessionFault → Outcome
 of_session = result_map_both One Session
@@ -71,14 +66,17 @@ of_session = result_map_both One Session
 -- sealing, with room for so many bytes of ciphertext and of tag
 
 abbrev pub seal_outcome : List ℕ → List ℕ → ℕ → ℕ → Outcome
-seal_outcome memory text room tag = outcome_with (session_for memory 4 tag) (λ s. of_session (seal_answer text room))
+seal_outcome memory text room tag_length = outcome_with (session_for memory 4 tag_length) (λ s. of_session (seal_answer text room))
+
+abbrev pub kept_sealed : List ℕ → List ℕ → List ℕ → Result ℕ SessionFault → List ℕ → List ℕ
+kept_sealed s ad text (Ok n) old = kept_session (seal_bits s ad text (Ok n))
+kept_sealed s ad text (Err e) old = old
 
 abbrev pub seal_memory : List ℕ → List ℕ → List ℕ → ℕ → ℕ → List ℕ
-seal_memory memory ad text room tag =
-    buffer_with (session_for memory 4 tag) (λ s. by_outcome (seal_answer text room) (kept_session (seal_bits s ad text (seal_answer text room))) memory) memory
+seal_memory memory ad text room tag_length = buffer_with (session_for memory 4 tag_length) (λ s. kept_sealed s ad text (seal_answer text room) memory) memory
 
 abbrev pub seal_buffer : List ℕ → List ℕ → List ℕ → List ℕ → ℕ → List ℕ
-seal_buffer memory ad text old tag = buffer_with (session_for memory 4 tag) (λ s. seal_out s ad text old (seal_answer text (length old))) old
+seal_buffer memory ad text old tag_length = buffer_with (session_for memory 4 tag_length) (λ s. seal_out s ad text old (seal_answer text (length old))) old
 
 abbrev pub seal_tag_bytes : List ℕ → List ℕ → List ℕ → ℕ → List ℕ → List ℕ
 seal_tag_bytes memory ad text room old = buffer_with (session_for memory 4 (length old)) (λ s. seal_tag s ad text old (seal_answer text room)) old
@@ -116,9 +114,12 @@ of_writing = result_map_both (λ p. Two p.0 p.1) Link
 abbrev pub write_outcome : List ℕ → ℕ → List ℕ → ℕ → Outcome
 write_outcome memory b t room = outcome_with (end_for sender_mark memory) (λ m. of_writing (write_answer m b t room))
 
+abbrev pub kept_written : Standing → Result (ℕ × ℕ) LinkFault → List ℕ → List ℕ
+kept_written after (Ok p) old = kept_end sender_mark after
+kept_written after (Err e) old = old
+
 abbrev pub write_memory : List ℕ → ℕ → List ℕ → ℕ → List ℕ
-write_memory memory b t room =
-    buffer_with (end_for sender_mark memory) (λ m. by_outcome (write_answer m b t room) (kept_end sender_mark (write_standing m b t room)) memory) memory
+write_memory memory b t room = buffer_with (end_for sender_mark memory) (λ m. kept_written (write_standing m b t room) (write_answer m b t room) memory) memory
 
 abbrev pub write_buffer : List ℕ → ℕ → List ℕ → List ℕ → List ℕ
 write_buffer memory b t old = buffer_with (end_for sender_mark memory) (λ m. write_out m b t old) old
@@ -131,9 +132,12 @@ of_taking = result_map_both (λ k. One (kind_byte k)) Link
 abbrev pub take_outcome : List ℕ → List ℕ → ℕ → Outcome
 take_outcome memory f room = outcome_with (end_for receiver_mark memory) (λ m. of_taking (take_answer m f room))
 
+abbrev pub kept_taken : Standing → List ℕ → Result Kind LinkFault → List ℕ → List ℕ
+kept_taken m f (Ok k) old = kept_end receiver_mark (take_standing m f (Ok k))
+kept_taken m f (Err e) old = old
+
 abbrev pub take_memory : List ℕ → List ℕ → ℕ → List ℕ
-take_memory memory f room =
-    buffer_with (end_for receiver_mark memory) (λ m. by_outcome (take_answer m f room) (kept_end receiver_mark (take_standing m f (take_answer m f room))) memory) memory
+take_memory memory f room = buffer_with (end_for receiver_mark memory) (λ m. kept_taken m f (take_answer m f room) memory) memory
 
 abbrev pub take_buffer : List ℕ → List ℕ → List ℕ → List ℕ
 take_buffer memory f old = buffer_with (end_for receiver_mark memory) (λ m. take_text m f old (take_answer m f (length old))) old

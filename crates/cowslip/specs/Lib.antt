@@ -1,3 +1,4 @@
 pub mod Refusals
 pub mod Memory
 pub mod Calls
+pub mod Laws

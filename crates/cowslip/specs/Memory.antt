@@ -4,7 +4,7 @@ use Rattle.duplex.specs.Bytes.{bytes_of_state, state_of_bytes}
 use Rattle.duplex.specs.Strings.{word_bytes}
 use Rattle.link.specs.Frames.{Standing, standing_of, number_limit}
 use Rattle.cowslip.specs.declared.fault.CallFault.{CallFault}
-use Rattle.cowslip.specs.declared.fault.CallFault.TheVariants.{Length, Memory}
+use Rattle.cowslip.specs.declared.fault.CallFault.TheVariants.{ArgumentLength, NoState}
 
 -- The first byte says what the memory holds.
 
@@ -34,7 +34,7 @@ kept_end mark m = mark ∷ (bytes_of_state m.state ++ word_bytes m.number)
 -- What a call finds there: a fault, unless the mark is right and the number not too large.
 
 abbrev pub bits_in : ℕ → List ℕ → Result (List ℕ) CallFault
-bits_in mark memory = cond (slice_index memory 0 == mark) (Ok (state_of_bytes (take 33 (drop 1 memory)))) (Err Memory)
+bits_in mark memory = cond (slice_index memory 0 == mark) (Ok (state_of_bytes (take 33 (drop 1 memory)))) (Err NoState)
 
 abbrev pub session_in : List ℕ → Result (List ℕ) CallFault
 session_in memory = bits_in session_mark memory
@@ -43,18 +43,13 @@ session_in memory = bits_in session_mark memory
 abbrev pub number_at : List ℕ → ℕ
 number_at memory = slice_index memory 34 + slice_index memory 35 * 256 + slice_index memory 36 * 65536 + slice_index memory 37 * 16777216
 
-abbrev pub with_number : ℕ → Result (List ℕ) CallFault → Result Standing CallFault
-with_number n (Ok s) = cond (nat_lt number_limit n) (Err Memory) (Ok (standing_of s n))
-with_number n (Err e) = Err e
+abbrev pub standing_at : ℕ → Result (List ℕ) CallFault → Result Standing CallFault
+standing_at n (Ok s) = cond (nat_lt number_limit n) (Err NoState) (Ok (standing_of s n))
+standing_at n (Err e) = Err e
 
 abbrev pub end_in : ℕ → List ℕ → Result Standing CallFault
-end_in mark memory = with_number (number_at memory) (bits_in mark memory)
+end_in mark memory = standing_at (number_at memory) (bits_in mark memory)
 
 -- a lent slice that has not its fixed length is refused, and told by its place among the arguments
 abbrev pub sized : {A : Type 0} → ℕ → ℕ → ℕ → Result A CallFault → Result A CallFault
-sized argument size long rest = cond (long == size) rest (Err (Length argument))
-
--- what was found, by where it stands
-abbrev pub found : {X S : Type 0} → (X → S) → Result X CallFault → Result S CallFault
-found f (Ok x) = Ok (f x)
-found f (Err e) = Err e
+sized argument size length rest = cond (length == size) rest (Err (ArgumentLength argument))

@@ -6,7 +6,7 @@ use Rattle.link.specs.Refusals as link
 use Rattle.digests.specs.Entries as entries
 use Rattle.cowslip.specs.declared.fault.Told.{Told}
 use Rattle.cowslip.specs.declared.fault.CallFault.{CallFault}
-use Rattle.cowslip.specs.declared.fault.CallFault.TheVariants.{Length, Memory, Session, Link, Entries}
+use Rattle.cowslip.specs.declared.fault.CallFault.TheVariants.{ArgumentLength, NoState, Session, Link, Entries}
 
 abbrev pub told_as : ℕ → ℕ → Told
 told_as number place = record { number = number; place = place }
@@ -17,8 +17,8 @@ without_layer refusal = told_as refusal.number refusal.place
 
 -- two refusals of the interface itself; the others are told as the call that refuses tells them
 abbrev pub told : CallFault → Told
-told (Length argument) = told_as 30 argument
-told Memory = told_as 31 0
+told (ArgumentLength argument) = told_as 30 argument
+told NoState = told_as 31 0
 told (Session fault) = without_layer (session.told fault)
 told (Link fault) = without_layer (link.told fault)
 told (Entries fault) = without_layer (entries.told fault)

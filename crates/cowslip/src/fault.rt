@@ -11,9 +11,9 @@ use session::SessionFault;
 #[derive(Clone, Copy, Debug, PartialEq, Eq)]
 pub enum CallFault {
     // a slice of fixed length has another length; which argument it is, from 0
-    Length { argument: usize },
+    ArgumentLength { argument: usize },
     // the memory holds no state of this sort
-    Memory,
+    NoState,
     Session(SessionFault),
     Link(LinkFault),
     Entries(EntryFault),
@@ -68,11 +68,11 @@ impl From<CallFault> for Told {
 
     fn from(fault: CallFault) -> Told {
         match fault {
-            CallFault::Length { argument } => Told {
+            CallFault::ArgumentLength { argument } => Told {
                 number: 30,
                 place: argument,
             },
-            CallFault::Memory => Told {
+            CallFault::NoState => Told {
                 number: 31,
                 place: 0,
             },

@@ -3,7 +3,7 @@ ghost use Rattle.std.specs.Prelude.{◌≡◌, length};
 ghost use Rattle.digests.specs.Digests.{digested, decked};
 ghost use Rattle.digests.specs.Entries.{outside, answered, cuts};
 ghost use Rattle.digests.specs.declared.entries.EntryFault.TheVariants.{Digest, Deck};
-ghost use Rattle.cowslip.specs.Calls.{Reports, by_outcome, of_entries};
+ghost use Rattle.cowslip.specs.Calls.{Reports, buffer_with, of_entries};
 
 use crate::fault::CallFault;
 use crate::report::{Answer, report};
@@ -16,12 +16,12 @@ pub extern "C" fn cowslip_digest(
     buffer: &[u8],
     entries: &[Entry],
     out: &mut [u8],
-    numbers: &mut [usize],
+    told: &mut [usize],
 ) -> u32
-    ensures answer { Reports (of_entries (answered Digest (outside 0 (length buffer.now) entries.now))) result numbers.old numbers.new }
-    ensures out { out.new ≡ by_outcome (answered Digest (outside 0 (length buffer.now) entries.now)) (digested (cuts buffer.now entries.now) (length out.old)) out.old }
+    ensures answer { Reports (of_entries (answered Digest (outside 0 (length buffer.now) entries.now))) result told.old told.new }
+    ensures out { out.new ≡ buffer_with (answered Digest (outside 0 (length buffer.now) entries.now)) (λ u. digested (cuts buffer.now entries.now) (length out.old)) out.old }
 {
-    report(filled(digest::<Postponed>(buffer, entries, out)), numbers)
+    report(filled(digest::<Postponed>(buffer, entries, out)), told)
 }
 
 // Fills `out` with what the deck function gives for a key and the strings that the entries cut out of the buffer.
@@ -31,15 +31,12 @@ pub extern "C" fn cowslip_deck(
     buffer: &[u8],
     entries: &[Entry],
     out: &mut [u8],
-    numbers: &mut [usize],
+    told: &mut [usize],
 ) -> u32
-    ensures answer { Reports (of_entries (answered Deck (outside 0 (length buffer.now) entries.now))) result numbers.old numbers.new }
-    ensures out { out.new ≡ by_outcome (answered Deck (outside 0 (length buffer.now) entries.now)) (decked key.now (cuts buffer.now entries.now) (length out.old)) out.old }
+    ensures answer { Reports (of_entries (answered Deck (outside 0 (length buffer.now) entries.now))) result told.old told.new }
+    ensures out { out.new ≡ buffer_with (answered Deck (outside 0 (length buffer.now) entries.now)) (λ u. decked key.now (cuts buffer.now entries.now) (length out.old)) out.old }
 {
-    report(
-        filled(deck::<Postponed>(key, buffer, entries, out)),
-        numbers,
-    )
+    report(filled(deck::<Postponed>(key, buffer, entries, out)), told)
 }
 
 // The outcome of a call that fills a buffer.

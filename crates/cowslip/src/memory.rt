@@ -1,9 +1,10 @@
 // Sessions and ends in memory that the caller lends.
 ghost use Rattle.std.specs.Prelude.{◌≡◌, ℕ, ◌≤◌, length, Ok};
+ghost use Rattle.std.specs.Result.{result_map_both};
 ghost use Rattle.postponed.specs.Meaning.{meant};
 ghost use Rattle.session.specs.Calls.{session_bits};
 ghost use Rattle.link.specs.Calls.{stands};
-ghost use Rattle.cowslip.specs.Memory.{sender_mark, receiver_mark, kept_session, kept_end, bits_in, session_in, end_in, found};
+ghost use Rattle.cowslip.specs.Memory.{sender_mark, receiver_mark, kept_session, kept_end, bits_in, session_in, end_in};
 
 use crate::fault::CallFault;
 use link::{End, Receiving, Sending};
@@ -41,17 +42,17 @@ impl Direction for Receiving {
 // The session behind a mark. The mark is handed on as a byte: the memory of a session has one too, which is no direction's.
 fn load(memory: &[u8], mark: u8) -> Result<Session<Postponed>, CallFault>
     requires { 34 ≤ length memory.now }
-    ensures { found (session_bits meant) result ≡ bits_in mark memory.now }
+    ensures { result_map_both (session_bits meant) (λ e. e) result ≡ bits_in mark memory.now }
 {
     if memory[0] != mark {
-        return Err(CallFault::Memory);
+        return Err(CallFault::NoState);
     }
     let bits = memory[1..34].as_array().unwrap();
     Ok(unsafe { Session::resume(Postponed::from_bytes(bits)) })
 }
 
 pub(crate) fn load_session(memory: &SessionMemory) -> Result<Session<Postponed>, CallFault>
-    ensures { found (session_bits meant) result ≡ session_in memory.now }
+    ensures { result_map_both (session_bits meant) (λ e. e) result ≡ session_in memory.now }
 {
     load(memory, SESSION)
 }
@@ -65,11 +66,11 @@ pub(crate) fn store_session(session: Session<Postponed>, memory: &mut SessionMem
 }
 
 pub(crate) fn load_end<D: Direction>(memory: &EndMemory) -> Result<End<Postponed, D>, CallFault>
-    ensures { found (stands meant) result ≡ end_in D.MARK memory.now }
+    ensures { result_map_both (stands meant) (λ e. e) result ≡ end_in D.MARK memory.now }
 {
     let session = load(memory, D::MARK)?;
     let number = u32::from_le_bytes(*memory[34..].as_array().unwrap());
-    unsafe { End::resume(session, number) }.ok_or(CallFault::Memory)
+    unsafe { End::resume(session, number) }.ok_or(CallFault::NoState)
 }
 
 pub(crate) fn store_end<D: Direction>(end: End<Postponed, D>, memory: &mut EndMemory)

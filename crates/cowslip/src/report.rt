@@ -14,33 +14,33 @@ pub enum Answer {
 
 // Writes a number where there is a place for it. By an index: after a write through `get_mut` no element is known.
 #[tactic(auto, using(std::proofs::lemmas::List::set_past))]
-fn put(numbers: &mut [usize], place: usize, number: usize)
-    ensures { numbers.new ≡ slice_set numbers.old place number }
+fn put(told: &mut [usize], place: usize, number: usize)
+    ensures { told.new ≡ slice_set told.old place number }
 {
-    if place < numbers.len() {
-        numbers[place] = number;
+    if place < told.len() {
+        told[place] = number;
     }
 }
 
 // Tells the answer's numbers, or the refusal's place; returns 0, or the refusal's number.
-pub(crate) fn report(outcome: Result<Answer, CallFault>, numbers: &mut [usize]) -> u32
-    ensures { Reports outcome result numbers.old numbers.new }
+pub(crate) fn report(outcome: Result<Answer, CallFault>, told: &mut [usize]) -> u32
+    ensures { Reports outcome result told.old told.new }
 {
     match outcome {
         Ok(Answer::Nothing) => 0,
         Ok(Answer::One(number)) => {
-            put(numbers, 0, number);
+            put(told, 0, number);
             0
         }
         Ok(Answer::Two(first, second)) => {
-            put(numbers, 0, first);
-            put(numbers, 1, second);
+            put(told, 0, first);
+            put(told, 1, second);
             0
         }
         Err(fault) => {
-            let told = Told::from(fault);
-            put(numbers, 0, told.place);
-            u32::from(told.number)
+            let refusal = Told::from(fault);
+            put(told, 0, refusal.place);
+            u32::from(refusal.number)
         }
     }
 }

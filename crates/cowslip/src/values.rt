@@ -8,5 +8,5 @@ use crate::fault::CallFault;
 pub(crate) fn fixed<const N: usize>(slice: &[u8], argument: usize) -> Result<[u8; N], CallFault>
     ensures { result ≡ sized argument N (length slice.now) (Ok slice.now) }
 {
-    <[u8; N]>::try_from(slice).map_err(|_| CallFault::Length { argument })
+    <[u8; N]>::try_from(slice).map_err(|_| CallFault::ArgumentLength { argument })
 }
