@@ -1,10 +1,11 @@
 -- What the suite's sender writes a receiving end accepts, and the other way round.
-use Rattle.std.proofs.Common.{◌≡◌, ℕ, ◌+◌, ◌-◌, ◌<◌, ◌≤◌, Bool, true, false, cond, ◌&&◌, eqb, ltb, List, [], ◌∷◌, ◌++◌, length, get_or, take, drop, Some, None, Ok, Err, Option, sym, refl, ap, ◌∙◌, ap₂, arith}
+use Rattle.std.proofs.Common.{◌≡◌, ℕ, ◌+◌, ◌-◌, ◌<◌, ◌≤◌, Bool, true, false, cond, eqb, ltb, List, [], ◌∷◌, ◌++◌, length, get_or, take, drop, Some, None, Ok, Err, Option, sym, refl, ap, ◌∙◌, ap₂, arith}
+use Rattle.std.specs.Option.{option_map, option_and_then, option_map_or}
 use Rattle.std.specs.Str.{bytes_eq}
 use Rattle.std.proofs.lemmas.Slice.Eq.{bytes_eq-Decides}
 use Rattle.std.proofs.lemmas.List.{length-append, take_at, drop_at, take-append-drop, drop-drop}
 use Rattle.std.proofs.lemmas.Bool.Decides.{nat_tests}
-use Rattle.std.proofs.lemmas.Bool.{lt-ltb, eq-eqb, ltb-true, eqb-true}
+use Rattle.std.proofs.lemmas.Bool.{lt-ltb, le-ltb, eq-eqb, ne_eqb, ltb-true, eqb-true}
 use Rattle.duplex.specs.Strings.{word_bytes}
 use Rattle.session.specs.declared.fault.SessionFault.TheVariants.{Tag}
 use Rattle.session.specs.Sessions.{ciphertext_of, plaintext_of, tag_of, after_sealing, opens}
@@ -14,8 +15,8 @@ use Rattle.link.specs.declared.kind.Kind.TheVariants.{PollValue, Alarm, Output, 
 use Rattle.link.specs.declared.fault.LinkFault.{LinkFault}
 use Rattle.link.specs.declared.fault.LinkFault.TheVariants.{Session}
 use Rattle.link.specs.Kinds.{kind_byte, text_length, least_room, kind_of}
-use Rattle.link.specs.Frames.{Standing, number_limit, header_length, overhead, header_of, header_in, number_in, ciphertext_in, tag_in, text_in}
-use Rattle.link.specs.Sender.{frame_of, next_of, ready, written, held, writes, fed, CouldWrite}
+use Rattle.link.specs.Frames.{Standing, number_limit, header_length, tag_length, overhead, header_of, header_in, number_in, ciphertext_in, tag_in, text_in}
+use Rattle.link.specs.Sender.{frame_of, next_of, if_fits, writes_as, writes, fed, CouldWrite}
 use Rattle.link.specs.Calls.{Checked, checked, opened, take_answer, take_standing}
 use Rattle.link.proofs.Tellings.{short_text}
 use Rattle.link.proofs.Takings.{Fit, Seen, seen_is, passes, answer_ok, length_body}
@@ -42,30 +43,49 @@ pub record Wrote (m : Standing) (b : ℕ) (t f : List ℕ) : Type 0 where
   pub size : length t ≡ text_length kind
   pub frame : f ≡ frame_of m kind t
 
-wrote_at : (m : Standing) (b : ℕ) (t f : List ℕ) (o : Option Kind) → kind_of b ≡ o → written m o t ≡ Some f → Wrote m b t f
-wrote_at m b t f None e h = cc
-wrote_at m b t f (Some k) e h = at (ltb m.number number_limit) refl (eqb (length t) (text_length k)) refl h
-  where
-    at : (x : Bool) → ltb m.number number_limit ≡ x → (y : Bool) → eqb (length t) (text_length k) ≡ y → cond (x && y) (Some (frame_of m k t)) None ≡ Some f → Wrote m b t f
-    at true p true q r = record { kind = k; byte = byte_of_kind b k e; below = ltb-true m.number number_limit p; size = eqb-true (length t) (text_length k) q; frame = cc }
-    at true p false q r = cc
-    at false p y q r = cc
+module _ (m : Standing) (b : ℕ) (t : List ℕ) where
+  abbrev by_kind : Option Kind → Option Kind
+  by_kind o = cond (ltb m.number number_limit) (option_and_then (if_fits t) o) None
 
-pub wrote : (m : Standing) (b : ℕ) (t f : List ℕ) → writes m b t ≡ Some f → Wrote m b t f
-unfolding writes
-wrote m b t f h = wrote_at m b t f (kind_of b) refl h
+  wrote_at : (f : List ℕ) (x : Bool) → ltb m.number number_limit ≡ x → (o : Option Kind) → kind_of b ≡ o → option_map (λ k. frame_of m k t) (cond x (option_and_then (if_fits t) o) None) ≡ Some f → Wrote m b t f
+  wrote_at f false p o e h = cc
+  wrote_at f true p None e h = cc
+  wrote_at f true p (Some k) e h = at (eqb (length t) (text_length k)) refl h
+    where
+      at : (y : Bool) → eqb (length t) (text_length k) ≡ y → option_map (λ j. frame_of m j t) (cond y (Some k) None) ≡ Some f → Wrote m b t f
+      at true q r = record { kind = k; byte = byte_of_kind b k e; below = ltb-true m.number number_limit p; size = eqb-true (length t) (text_length k) q; frame = cc }
+      at false q r = cc
+
+  pub wrote : (f : List ℕ) → writes m b t ≡ Some f → Wrote m b t f
+  unfolding writes writes_as
+  wrote f h = wrote_at f (ltb m.number number_limit) refl (kind_of b) refl h
+
+  -- where the checks on a text refuse, but for the room, nothing is written
+  writes_by : (o : Option Kind) → kind_of b ≡ o → by_kind o ≡ None → writes m b t ≡ None
+  unfolding writes writes_as
+  writes_by o e h = ap (λ p. option_map (λ k. frame_of m k t) (by_kind p)) e ∙ ap (option_map (λ k. frame_of m k t)) h
+
+  pub writes_at_limit : number_limit ≤ m.number → writes m b t ≡ None
+  writes_at_limit h = writes_by (kind_of b) refl (rw (le-ltb m.number number_limit h) refl)
+
+  pub writes_no_kind : m.number < number_limit → kind_of b ≡ None → writes m b t ≡ None
+  writes_no_kind h e = writes_by None e (rw (lt-ltb m.number number_limit h) refl)
+
+  pub writes_no_text : m.number < number_limit → (k : Kind) → kind_of b ≡ Some k → (length t ≡ text_length k → ⊥) → writes m b t ≡ None
+  writes_no_text h k e l = writes_by (Some k) e (rw (lt-ltb m.number number_limit h, ne_eqb (length t) (text_length k) l) refl)
 
 module _ (m : Standing) (k : Kind) (t : List ℕ) (below : m.number < number_limit) (size : length t ≡ text_length k) where
-  is_ready : ready m k t ≡ true
-  is_ready = rw (lt-ltb m.number number_limit below, eq-eqb (length t) (text_length k) size) refl
+  as_kind : writes_as m (kind_byte k) t ≡ Some k
+  unfolding writes_as
+  as_kind = ap (by_kind m (kind_byte k) t) (kind_byte_of k) ∙ rw (lt-ltb m.number number_limit below, eq-eqb (length t) (text_length k) size) refl
 
   pub writes_frame : writes m (kind_byte k) t ≡ Some (frame_of m k t)
   unfolding writes
-  writes_frame = ap (λ o. written m o t) (kind_byte_of k) ∙ ap (λ x. cond x (Some (frame_of m k t)) None) is_ready
+  writes_frame = ap (option_map (λ j. frame_of m j t)) as_kind
 
   pub fed_next : fed m (kind_byte k) t ≡ next_of m k t
   unfolding fed
-  fed_next = ap (λ o. held m o t) (kind_byte_of k) ∙ ap (λ x. cond x (next_of m k t) m) is_ready
+  fed_next = ap (λ o. option_map_or (λ j. next_of m j t) o m) as_kind
 
 -- The parts of a frame.
 
@@ -79,7 +99,7 @@ module _ (m : Standing) (k : Kind) (t : List ℕ) where
   abbrev tag : List ℕ
   tag = tag_of m.state ad t
 
-  frame_header : header_in (frame_of m k t) ≡ ad
+  pub frame_header : header_in (frame_of m k t) ≡ ad
   unfolding frame_of
   frame_header = refl
 
@@ -107,10 +127,10 @@ module _ (m : Standing) (k : Kind) (t : List ℕ) where
   frame_tag : tag_in (frame_of m k t) ≡ tag
   unfolding frame_of
   frame_tag =
-      let n : length (ad ++ body) ≡ length (frame_of m k t) - 16 = omega (arith, length-append ad body, frame_length, length-cipher m.state ad t) in
-      drop_at (ad ++ body) tag (length (frame_of m k t) - 16) n
+      let n : length (ad ++ body) ≡ length (frame_of m k t) - tag_length = omega (arith, length-append ad body, frame_length, length-cipher m.state ad t) in
+      drop_at (ad ++ body) tag (length (frame_of m k t) - tag_length) n
 
-  frame_text : text_in m (frame_of m k t) ≡ t
+  pub frame_text : text_in m (frame_of m k t) ≡ t
   frame_text = ap₂ (plaintext_of m.state) frame_header frame_body ∙ plaintext-ciphertext m.state ad t
 
   frame_opens : opens m.state (header_in (frame_of m k t)) (ciphertext_in (frame_of m k t)) (tag_in (frame_of m k t)) ≡ true

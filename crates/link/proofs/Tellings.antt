@@ -29,7 +29,7 @@ short_text ZoneName = omega arith
 short_text Heartbeat = omega arith
 
 -- so the place of a tag is not cut off
-in_frame_is : (k : Kind) (n : ℕ) → n ≡ text_length k → in_frame n ≡ n + header_length
+pub in_frame_is : (k : Kind) (n : ℕ) → n ≡ text_length k → in_frame n ≡ n + header_length
 in_frame_is k n e = let h = short_text k in omega arith
 
 -- an opening, after the checks

@@ -2,15 +2,13 @@
 use Rattle.std.specs.Prelude.{ℕ, ◌+◌, cond, List, ◌++◌, length, drop, replicate, Some, None, Ok, Err, Option, Result, ◌==◌, nat_lt, slice_index}
 use Rattle.std.specs.Str.{bytes_eq}
 use Rattle.duplex.specs.Strings.{word_bytes}
-use Rattle.session.specs.declared.fault.SessionFault.TheVariants.{Tag}
+use Rattle.session.specs.declared.fault.SessionFault.TheVariants.{Short, Tag}
 use Rattle.session.specs.Calls.{session_bits}
 use Rattle.session.specs.Sessions.{after_sealing, opens}
 use Rattle.link.specs.declared.kind.Kind.{Kind}
 use Rattle.link.specs.declared.fault.LinkFault.{LinkFault}
 use Rattle.link.specs.declared.fault.LinkFault.TheVariants.{Spent, Empty, UnknownKind, WrongLength, ShortBuffer, WrongNumber, Session}
 use Rattle.link.specs.declared.ends.End.{End}
-use Rattle.link.specs.declared.ends.Sending.{Sending}
-use Rattle.link.specs.declared.ends.Receiving.{Receiving}
 use Rattle.link.specs.Kinds.{text_length, kind_of}
 use Rattle.link.specs.Frames.{Standing, standing_of, number_limit, overhead, header_in, number_in, ciphertext_in, tag_in, text_in}
 use Rattle.link.specs.Sender.{frame_of, next_of}
@@ -19,12 +17,6 @@ use Rattle.link.specs.Sender.{frame_of, next_of}
 module _ {E : Type 0} (bits : E → List ℕ) where
   abbrev pub stands : {D : Type 0} → End E D → Standing
   stands e = standing_of (session_bits bits e.session) e.number.value
-
-  abbrev pub sending : End E Sending → Standing
-  sending = stands
-
-  abbrev pub receiving : End E Receiving → Standing
-  receiving = stands
 
 -- where an end stands that goes on from bits and a number that were kept, if there is one
 abbrev pub resumed : List ℕ → ℕ → Option Standing
@@ -70,7 +62,8 @@ take_standing m f (Ok k) = record { state = after_sealing m.state (header_in f) 
 -- the text at the front of the buffer, or as many zeros where its tag differs; a refusal before the opening leaves the buffer as it was
 abbrev pub take_text : Standing → List ℕ → List ℕ → Checked → List ℕ
 take_text m f old (Ok k) = text_in m f ++ drop (length (ciphertext_in f)) old
-take_text m f old (Err (Session e)) = replicate (length (ciphertext_in f)) 0 ++ drop (length (ciphertext_in f)) old
+take_text m f old (Err (Session (Tag n))) = replicate (length (ciphertext_in f)) 0 ++ drop (length (ciphertext_in f)) old
+take_text m f old (Err (Session (Short n))) = old
 take_text m f old (Err Spent) = old
 take_text m f old (Err Empty) = old
 take_text m f old (Err UnknownKind) = old

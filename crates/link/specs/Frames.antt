@@ -1,5 +1,5 @@
 -- The parts of a frame, and where an end stands.
-use Rattle.std.specs.Prelude.{ℕ, ◌-◌, List, ◌∷◌, length, take, drop}
+use Rattle.std.specs.Prelude.{ℕ, ◌+◌, ◌-◌, List, ◌∷◌, length, take, drop}
 use Rattle.duplex.specs.Strings.{word_bytes}
 use Rattle.session.specs.Sessions.{begun, plaintext_of}
 
@@ -23,9 +23,13 @@ number_limit = 1000000
 abbrev pub header_length : ℕ
 header_length = 5
 
--- those and the tag: how much longer a frame is than its text
+-- and the tag's bytes so many
+abbrev pub tag_length : ℕ
+tag_length = 16
+
+-- how much longer a frame is than its text
 abbrev pub overhead : ℕ
-overhead = 21
+overhead = header_length + tag_length
 
 -- the bytes before the ciphertext, which are the associated data: a kind byte, and a number in four bytes
 abbrev pub header_of : ℕ → ℕ → List ℕ
@@ -43,7 +47,7 @@ abbrev pub ciphertext_in : List ℕ → List ℕ
 ciphertext_in f = take (length f - overhead) (drop header_length f)
 
 abbrev pub tag_in : List ℕ → List ℕ
-tag_in f = drop (length f - 16) f
+tag_in f = drop (length f - tag_length) f
 
 -- the text that a session at these bits reads in it
 abbrev pub text_in : Standing → List ℕ → List ℕ

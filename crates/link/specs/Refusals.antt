@@ -2,10 +2,9 @@
 use Rattle.std.specs.Prelude.{ℕ, ◌+◌, ◌-◌, ◌^◌, min, Bool, not, List, [], ◌∷◌, length, is_some, ◌==◌, nat_lt, slice_index}
 use Rattle.std.specs.Option.{option_map, unwrap_or}
 use Rattle.std.specs.Str.{bytes_eq}
-use Rattle.refusals.specs.declared.Layer.{Layer}
 use Rattle.refusals.specs.declared.Layer.TheVariants.{Session, Link}
 use Rattle.refusals.specs.declared.Refusal.{Refusal}
-use Rattle.refusals.specs.Tables.{Table}
+use Rattle.refusals.specs.Tables.{refusal_of, Table}
 use Rattle.duplex.specs.Strings.{word_bytes}
 use Rattle.session.specs.declared.fault.SessionFault.TheVariants.{Short, Tag}
 use Rattle.session.specs.Sessions.{opens}
@@ -14,22 +13,19 @@ use Rattle.link.specs.declared.fault.LinkFault.TheVariants.{Spent, Empty, Unknow
 use Rattle.link.specs.Kinds.{text_length, kind_of}
 use Rattle.link.specs.Frames.{Standing, number_limit, header_length, overhead, header_in, number_in, ciphertext_in, tag_in}
 
-abbrev by : Layer → ℕ → ℕ → Refusal
-by layer number place = record { number = number; layer = layer; place = place }
-
 -- A session counts from the ciphertext's first byte, and a frame has its header before that. No place is past the largest number of 64 bits.
 abbrev pub in_frame : ℕ → ℕ
 in_frame place = min (place + header_length) (2 ^ 64 - 1)
 
 abbrev pub told : LinkFault → Refusal
-told Spent = by Link 1 0
-told Empty = by Link 2 0
-told UnknownKind = by Link 3 0
-told (WrongLength length) = by Link 4 length
-told (ShortBuffer room) = by Link 5 room
-told WrongNumber = by Link 6 1
-told (InSession (Short room)) = by Session 5 (in_frame room)
-told (InSession (Tag ciphertext)) = by Session 7 (in_frame ciphertext)
+told Spent = refusal_of Link 1 0
+told Empty = refusal_of Link 2 0
+told UnknownKind = refusal_of Link 3 0
+told (WrongLength length) = refusal_of Link 4 length
+told (ShortBuffer room) = refusal_of Link 5 room
+told WrongNumber = refusal_of Link 6 1
+told (InSession (Short room)) = refusal_of Session 5 (in_frame room)
+told (InSession (Tag ciphertext)) = refusal_of Session 7 (in_frame ciphertext)
 
 -- Of a kind byte: it stands for no kind; the text length of its kind, or 0 for none.
 
@@ -42,20 +38,20 @@ length_for b = unwrap_or (option_map text_length (kind_of b)) 0
 -- taking a frame f where an end stands, with room for so many bytes of text; its first byte is its kind's
 unfoldable pub take_table : Standing → List ℕ → ℕ → Table
 take_table m f room =
-    ((m.number == number_limit), by Link 1 0)
-    ∷ ((length f == 0), by Link 2 0)
-    ∷ (no_kind (slice_index f 0), by Link 3 0)
-    ∷ (not (length f == length_for (slice_index f 0) + overhead), by Link 4 (length f))
-    ∷ (nat_lt room (length_for (slice_index f 0)), by Link 5 room)
-    ∷ (not (bytes_eq (number_in f) (word_bytes m.number)), by Link 6 1)
-    ∷ (not (opens m.state (header_in f) (ciphertext_in f) (tag_in f)), by Session 7 (length (ciphertext_in f) + header_length))
+    ((m.number == number_limit), refusal_of Link 1 0)
+    ∷ ((length f == 0), refusal_of Link 2 0)
+    ∷ (no_kind (slice_index f 0), refusal_of Link 3 0)
+    ∷ (not (length f == length_for (slice_index f 0) + overhead), refusal_of Link 4 (length f))
+    ∷ (nat_lt room (length_for (slice_index f 0)), refusal_of Link 5 room)
+    ∷ (not (bytes_eq (number_in f) (word_bytes m.number)), refusal_of Link 6 1)
+    ∷ (not (opens m.state (header_in f) (ciphertext_in f) (tag_in f)), refusal_of Session 7 (length (ciphertext_in f) + header_length))
     ∷ []
 
 -- writing a text t of the kind with byte b where an end stands, with room for so many bytes of frame
 unfoldable pub write_table : Standing → ℕ → List ℕ → ℕ → Table
 write_table m b t room =
-    ((m.number == number_limit), by Link 1 0)
-    ∷ (no_kind b, by Link 3 0)
-    ∷ (not (length t == length_for b), by Link 4 (length t))
-    ∷ (nat_lt room (length_for b + overhead), by Link 5 room)
+    ((m.number == number_limit), refusal_of Link 1 0)
+    ∷ (no_kind b, refusal_of Link 3 0)
+    ∷ (not (length t == length_for b), refusal_of Link 4 (length t))
+    ∷ (nat_lt room (length_for b + overhead), refusal_of Link 5 room)
     ∷ []

@@ -3,7 +3,7 @@ ghost use Rattle.std.specs.Prelude.{◌≡◌, ◌≤◌, length};
 ghost use Rattle.refusals.specs.Tables.{first_of, refused_by};
 ghost use Rattle.link.specs.Frames.{overhead, header_in, ciphertext_in, tag_in};
 ghost use Rattle.link.specs.Refusals.{told, take_table};
-ghost use Rattle.link.specs.Calls.{receiving, checked, take_answer, take_standing, take_text};
+ghost use Rattle.link.specs.Calls.{stands, checked, take_answer, take_standing, take_text};
 
 use crate::ends::ReceivingEnd;
 use crate::fault::LinkFault;
@@ -16,10 +16,10 @@ impl<E: Engine> ReceivingEnd<E> {
     // Takes a frame: its text stands at the front of `text`, and its kind is answered. The frame is opened on a copy of the session, so that a refusal leaves the end as it was.
     #[tactic(auto, using(crate::proofs::Takings::passes, crate::proofs::Tellings::take_tells), unfolding(crate::specs::Calls::take_answer))]
     pub fn take(&mut self, frame: &[u8], text: &mut [u8]) -> Result<Kind, LinkFault>
-        ensures value { result ≡ take_answer (receiving E.bits self.old) frame.now (length text.old) }
-        ensures tells { refused_by told result ≡ first_of (take_table (receiving E.bits self.old) frame.now (length text.old)) }
-        ensures moved { receiving E.bits self.new ≡ take_standing (receiving E.bits self.old) frame.now result }
-        ensures text { text.new ≡ take_text (receiving E.bits self.old) frame.now text.old result }
+        ensures value { result ≡ take_answer (stands E.bits self.old) frame.now (length text.old) }
+        ensures tells { refused_by told result ≡ first_of (take_table (stands E.bits self.old) frame.now (length text.old)) }
+        ensures moved { stands E.bits self.new ≡ take_standing (stands E.bits self.old) frame.now result }
+        ensures text { text.new ≡ take_text (stands E.bits self.old) frame.now text.old result }
     {
         let kind = check(self.number, frame, text.len())?;
         let (header, body, tag) = parts(frame);

@@ -5,7 +5,7 @@ ghost use Rattle.session.specs.Calls.{session_bits};
 ghost use Rattle.session.specs.Sessions.{ciphertext_of, tag_of, after_sealing};
 ghost use Rattle.link.specs.Frames.{overhead};
 ghost use Rattle.link.specs.Refusals.{told, write_table};
-ghost use Rattle.link.specs.Calls.{sending, vetted, write_answer, write_standing, write_out};
+ghost use Rattle.link.specs.Calls.{stands, vetted, write_answer, write_standing, write_out};
 
 use crate::ends::SendingEnd;
 use crate::fault::LinkFault;
@@ -23,10 +23,10 @@ impl<E: Engine> SendingEnd<E> {
         text: &[u8],
         out: &mut [u8],
     ) -> Result<(usize, u32), LinkFault>
-        ensures value { result ≡ write_answer (sending E.bits self.old) kind text.now (length out.old) }
-        ensures tells { refused_by told result ≡ first_of (write_table (sending E.bits self.old) kind text.now (length out.old)) }
-        ensures moved { sending E.bits self.new ≡ write_standing (sending E.bits self.old) kind text.now (length out.old) }
-        ensures out { out.new ≡ write_out (sending E.bits self.old) kind text.now out.old }
+        ensures value { result ≡ write_answer (stands E.bits self.old) kind text.now (length out.old) }
+        ensures tells { refused_by told result ≡ first_of (write_table (stands E.bits self.old) kind text.now (length out.old)) }
+        ensures moved { stands E.bits self.new ≡ write_standing (stands E.bits self.old) kind text.now (length out.old) }
+        ensures out { out.new ≡ write_out (stands E.bits self.old) kind text.now out.old }
     {
         let number = self.number;
         let known = check(number, kind, text, out.len())?;

@@ -4,7 +4,7 @@ ghost use Rattle.duplex.specs.State.{step, reading};
 ghost use Rattle.duplex.specs.Strings.{squeezed, after_squeezing};
 ghost use Rattle.digests.specs.Digests.{digested};
 ghost use Rattle.session.specs.Calls.{session_bits, seal_answer, seal_bits, seal_out, seal_tag};
-ghost use Rattle.link.specs.Calls.{sending, receiving, write_answer, write_standing, write_out};
+ghost use Rattle.link.specs.Calls.{stands, write_answer, write_standing, write_out};
 ghost use Rattle.link.specs.Kinds.{kind_byte};
 ghost use Rattle.load.specs.Turns.{sent, Took};
 
@@ -90,7 +90,7 @@ pub(crate) struct Writing<E> {
 }
 
 impl<E: Engine> Work for Writing<E> {
-    ghost turned = { λ text a b. (sending E.Engine.bits b.0.panel ≡ write_standing (sending E.Engine.bits a.0.panel) (kind_byte a.0.kind) text (length a.1)) × (b.0.kind ≡ a.0.kind) × (b.1 ≡ write_out (sending E.Engine.bits a.0.panel) (kind_byte a.0.kind) text a.1) };
+    ghost turned = { λ text a b. (stands E.Engine.bits b.0.panel ≡ write_standing (stands E.Engine.bits a.0.panel) (kind_byte a.0.kind) text (length a.1)) × (b.0.kind ≡ a.0.kind) × (b.1 ≡ write_out (stands E.Engine.bits a.0.panel) (kind_byte a.0.kind) text a.1) };
 
     fn turn(&mut self, text: &[u8], out: &mut [u8]) {
         let _ = self.panel.write(self.kind.into(), text, out);
@@ -106,7 +106,7 @@ pub(crate) struct Passing<E> {
 }
 
 impl<E: Engine> Work for Passing<E> {
-    ghost turned = { λ text a b. (sending E.Engine.bits b.0.panel ≡ write_standing (sending E.Engine.bits a.0.panel) (kind_byte a.0.kind) text 53) × (b.0.kind ≡ a.0.kind) × Took (receiving E.Engine.bits a.0.head) (sent (write_answer (sending E.Engine.bits a.0.panel) (kind_byte a.0.kind) text 53) (write_out (sending E.Engine.bits a.0.panel) (kind_byte a.0.kind) text (replicate 53 0))) a.1 (receiving E.Engine.bits b.0.head) b.1 };
+    ghost turned = { λ text a b. (stands E.Engine.bits b.0.panel ≡ write_standing (stands E.Engine.bits a.0.panel) (kind_byte a.0.kind) text 53) × (b.0.kind ≡ a.0.kind) × Took (stands E.Engine.bits a.0.head) (sent (write_answer (stands E.Engine.bits a.0.panel) (kind_byte a.0.kind) text 53) (write_out (stands E.Engine.bits a.0.panel) (kind_byte a.0.kind) text (replicate 53 0))) a.1 (stands E.Engine.bits b.0.head) b.1 };
 
     fn turn(&mut self, text: &[u8], out: &mut [u8]) {
         let mut frame = [0; LONGEST];

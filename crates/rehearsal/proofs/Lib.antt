@@ -1,3 +1,4 @@
 pub mod Loops
-pub mod Histories
-pub mod Owing
+pub mod Receiving
+pub mod Sending
+pub mod Together

@@ -1,11 +1,26 @@
 -- The law over runs: a receiving end and a sending end, held against the suite's sender.
-use Rattle.std.specs.Prelude.{◌≡◌, ℕ, ◌+◌, ◌<◌, ◌≤◌, List, [], ◌∷◌, ◌++◌, length, take, drop, Some, None, ◌≢◌}
+use Rattle.std.specs.Prelude.{◌≡◌, ℕ, ◌+◌, ◌<◌, ◌≤◌, Bool, true, false, cond, List, [], ◌∷◌, ◌++◌, length, take, drop, Some, None}
+use Rattle.refusals.specs.Tables.{first_of}
 use Rattle.link.specs.declared.kind.Kind.{Kind}
 use Rattle.link.specs.declared.fault.LinkFault.{LinkFault}
-use Rattle.link.specs.declared.fault.LinkFault.TheVariants.{Spent, UnknownKind, WrongLength, ShortBuffer}
-use Rattle.link.specs.Kinds.{kind_byte, text_length, kind_of}
-use Rattle.link.specs.Frames.{Standing, number_limit}
+use Rattle.link.specs.declared.fault.LinkFault.TheVariants.{ShortBuffer}
+use Rattle.link.specs.Kinds.{kind_byte}
+use Rattle.link.specs.Frames.{Standing}
 use Rattle.link.specs.Sender.{writes, fed, CouldWrite}
+use Rattle.link.specs.Refusals as link
+
+-- A list of calls and the list of their answers: step after step, from where the run begins to where it ends.
+pub data Run {S C A : Type 0} (Step : S → C → A → S → Type 0) : S → List C → List A → S → Type 0 where
+  ends : {s : S} → Run Step s [] [] s
+  next : {s s' s'' : S} {c : C} {a : A} {cs : List C} {rs : List A} → Step s c a s' → Run Step s' cs rs s'' → Run Step s (c ∷ cs) (a ∷ rs) s''
+
+-- where the suite's sender stands, and how many frames were accepted or written so far
+pub record Place : Type 0 where
+  pub sender : Standing
+  pub count : ℕ
+
+abbrev pub place_of : Standing → ℕ → Place
+place_of m n = record { sender = m; count = n }
 
 -- A receiving end.
 
@@ -20,67 +35,53 @@ pub data Answer : Type 0 where
   refused : Answer
   told : ℕ → Answer
 
--- one for an accepted frame
-abbrev pub count : Answer → ℕ
-count (taken k t) = 1
-count refused = 0
-count (told n) = 0
+-- What a call feeds the suite's sender, which stands at m before it: that is settled by the frames alone.
+pub data Feeds (m : Standing) : Call → Standing → Type 0 where
+  -- a frame that it could write next feeds it the kind and text of that frame
+  next_frame : {f : List ℕ} (b : ℕ) (t : List ℕ) → writes m b t ≡ Some f → Feeds m (take_frame f) (fed m b t)
+  -- any other frame, and a telling, nothing
+  other_frame : {f : List ℕ} → (CouldWrite m f → ⊥) → Feeds m (take_frame f) m
+  telling : Feeds m tell m
 
--- The answer that is due to a call where the suite's sender holds m and n frames were accepted, and what that sender holds then.
-pub data Due (m : Standing) (n : ℕ) : Call → Answer → Standing → Type 0 where
-  -- it could write the frame next: just one kind and text fit, they are the answer, and it is fed them
-  accepts : {f : List ℕ} (k : Kind) (t : List ℕ)
-      → writes m (kind_byte k) t ≡ Some f
-      → ((b : ℕ) (u : List ℕ) → writes m b u ≡ Some f → (b ≡ kind_byte k) × (u ≡ t))
-      → Due m n (take_frame f) (taken k t) (fed m (kind_byte k) t)
-  -- it could not
-  refuses : {f : List ℕ} → (CouldWrite m f → ⊥) → Due m n (take_frame f) refused m
-  tells : Due m n tell (told n) m
+-- The right answer where the suite's sender stands at m and n frames were accepted so far, and how many were after it.
+pub data RightAnswer (m : Standing) (n : ℕ) : Call → Answer → ℕ → Type 0 where
+  -- a frame that the suite's sender could write next is accepted: its kind is answered, and its text handed out
+  accepts : {f : List ℕ} (k : Kind) (t : List ℕ) → writes m (kind_byte k) t ≡ Some f → RightAnswer m n (take_frame f) (taken k t) (n + 1)
+  -- any other is refused
+  refuses : {f : List ℕ} → (CouldWrite m f → ⊥) → RightAnswer m n (take_frame f) refused n
+  tells : RightAnswer m n tell (told n) n
 
--- The answers that are due to a list of calls, from m and n to m'' and n''.
-pub data Heard : Standing → ℕ → List Call → List Answer → Standing → ℕ → Type 0 where
-  silent : {m : Standing} {n : ℕ} → Heard m n [] [] m n
-  heard : {m m' m'' : Standing} {n n'' : ℕ} {c : Call} {a : Answer} {cs : List Call} {rs : List Answer}
-      → Due m n c a m' → Heard m' (n + count a) cs rs m'' n'' → Heard m n (c ∷ cs) (a ∷ rs) m'' n''
+pub record ReceivingStep (p : Place) (c : Call) (a : Answer) (q : Place) : Type 0 where
+  pub feeding : Feeds p.sender c q.sender
+  pub answer : RightAnswer p.sender p.count c a q.count
 
--- the list of calls without the refused frames
-abbrev pub unless : Answer → Call → List Call → List Call
-unless (taken k t) c cs = c ∷ cs
-unless refused c cs = cs
-unless (told n) c cs = c ∷ cs
+abbrev pub ReceivingRun : Place → List Call → List Answer → Place → Type 0
+ReceivingRun = Run ReceivingStep
 
-abbrev pub kept : List Call → List Answer → List Call
-kept [] rs = []
-kept (c ∷ cs) [] = c ∷ cs
-kept (c ∷ cs) (a ∷ rs) = unless a c (kept cs rs)
+-- Just one kind and text fit a frame: so a frame feeds one thing, and one answer is right.
+abbrev pub OneFits : Type 0
+OneFits = (m : Standing) (b c : ℕ) (t u f : List ℕ) → writes m b t ≡ Some f → writes m c u ≡ Some f → (c ≡ b) × (u ≡ t)
 
--- the answers to the rest
-abbrev pub also : Answer → List Answer → List Answer
-also (taken k t) rs = taken k t ∷ rs
-also refused rs = rs
-also (told n) rs = told n ∷ rs
+abbrev pub is_refused : Answer → Bool
+is_refused (taken k t) = false
+is_refused refused = true
+is_refused (told n) = false
 
-abbrev pub spoken : List Answer → List Answer
-spoken [] = []
-spoken (a ∷ rs) = also a (spoken rs)
-
--- the accepted frames
-abbrev pub with_frame : Answer → Call → List (List ℕ) → List (List ℕ)
-with_frame (taken k t) (take_frame f) fs = f ∷ fs
-with_frame (taken k t) tell fs = fs
-with_frame refused c fs = fs
-with_frame (told n) c fs = fs
-
-abbrev pub accepted : List Call → List Answer → List (List ℕ)
-accepted [] rs = []
-accepted (c ∷ cs) [] = []
-accepted (c ∷ cs) (a ∷ rs) = with_frame a c (accepted cs rs)
+-- what stands in a list beside the answers, but for the places of the refusals
+abbrev pub without_refused : {X : Type 0} → List Answer → List X → List X
+without_refused [] xs = xs
+without_refused (a ∷ rs) [] = []
+without_refused (a ∷ rs) (x ∷ xs) = cond (is_refused a) (without_refused rs xs) (x ∷ without_refused rs xs)
 
 -- the frames of a list of calls
-abbrev pub handed : List Call → List (List ℕ)
-handed [] = []
-handed (take_frame f ∷ cs) = f ∷ handed cs
-handed (tell ∷ cs) = handed cs
+abbrev pub frames_handed : List Call → List (List ℕ)
+frames_handed [] = []
+frames_handed (take_frame f ∷ cs) = f ∷ frames_handed cs
+frames_handed (tell ∷ cs) = frames_handed cs
+
+-- those that were accepted
+abbrev pub frames_accepted : List Call → List Answer → List (List ℕ)
+frames_accepted cs rs = frames_handed (without_refused rs cs)
 
 -- A sending end.
 
@@ -95,40 +96,28 @@ pub data Written : Type 0 where
   refused : LinkFault → (buffer : List ℕ) → Written
   told : ℕ → Written
 
--- one for a frame written
-abbrev pub tally : Written → ℕ
-tally (wrote size number buffer) = 1
-tally (refused e buffer) = 0
-tally (told n) = 0
-
--- Why the suite's sender writes nothing: the first of these that holds.
-pub data Withholds (m : Standing) (b : ℕ) (t : List ℕ) : LinkFault → Type 0 where
-  spent : number_limit ≤ m.number → Withholds m b t Spent
-  unknown : m.number < number_limit → kind_of b ≡ None → Withholds m b t UnknownKind
-  unfit : (k : Kind) → m.number < number_limit → kind_of b ≡ Some k → (length t ≢ text_length k) → Withholds m b t (WrongLength (length t))
-
--- The answer that is due to a call where the suite's sender, fed the earlier writings that had room, holds m and n frames were written, and what that sender holds then.
-pub data Owed (m : Standing) (n : ℕ) : Writing → Written → Standing → Type 0 where
-  -- the buffer has room: just what the suite's sender writes next
+-- The right answer where the suite's sender stands at m and n frames were written so far; where that sender stands after it, and how many were written then.
+pub data RightWriting (m : Standing) (n : ℕ) : Writing → Written → Standing → ℕ → Type 0 where
+  -- into a buffer with room, just what the suite's sender writes next
   writes_next : {b : ℕ} {t old f : List ℕ} → writes m b t ≡ Some f → length f ≤ length old
-      → Owed m n (write_text b t old) (wrote (length f) n (f ++ drop (length f) old)) (fed m b t)
-  -- no room
-  too_tight : {b : ℕ} {t old f : List ℕ} → writes m b t ≡ Some f → length old < length f
-      → Owed m n (write_text b t old) (refused (ShortBuffer (length old)) old) m
-  -- nothing where that one writes nothing
-  writes_nothing : {b : ℕ} {t old : List ℕ} {e : LinkFault} → writes m b t ≡ None → Withholds m b t e
-      → Owed m n (write_text b t old) (refused e old) m
-  tells : Owed m n tell (told n) m
+      → RightWriting m n (write_text b t old) (wrote (length f) n (f ++ drop (length f) old)) (fed m b t) (n + 1)
+  -- into any other nothing, and then that sender is fed nothing
+  no_room : {b : ℕ} {t old f : List ℕ} → writes m b t ≡ Some f → length old < length f
+      → RightWriting m n (write_text b t old) (refused (ShortBuffer (length old)) old) m n
+  -- nothing where that sender writes nothing; the refusal is the first in the table of a writing's checks
+  writes_nothing : {b : ℕ} {t old : List ℕ} {e : LinkFault} → writes m b t ≡ None → first_of (link.write_table m b t (length old)) ≡ Some (link.told e)
+      → RightWriting m n (write_text b t old) (refused e old) m n
+  tells : RightWriting m n tell (told n) m n
 
--- The answers that are due to a list of calls, from m and n to m'' and n''.
-pub data Sent : Standing → ℕ → List Writing → List Written → Standing → ℕ → Type 0 where
-  silent : {m : Standing} {n : ℕ} → Sent m n [] [] m n
-  sent : {m m' m'' : Standing} {n n'' : ℕ} {w : Writing} {v : Written} {ws : List Writing} {vs : List Written}
-      → Owed m n w v m' → Sent m' (n + tally v) ws vs m'' n'' → Sent m n (w ∷ ws) (v ∷ vs) m'' n''
+abbrev pub SendingStep : Place → Writing → Written → Place → Type 0
+SendingStep p w v q = RightWriting p.sender p.count w v q.sender q.count
+
+abbrev pub SendingRun : Place → List Writing → List Written → Place → Type 0
+SendingRun = Run SendingStep
 
 -- the frames that a sending end has written
-abbrev pub frames : List Written → List (List ℕ)
-frames [] = []
-frames (wrote size number buffer ∷ vs) = take size buffer ∷ frames vs
-frames (refused e buffer ∷ vs) = frames vs
-frames (told n ∷ vs) = frames vs
+abbrev pub frames_written : List Written → List (List ℕ)
+frames_written [] = []
+frames_written (wrote size number buffer ∷ vs) = take size buffer ∷ frames_written vs
+frames_written (refused e buffer ∷ vs) = frames_written vs
+frames_written (told n ∷ vs) = frames_written vs

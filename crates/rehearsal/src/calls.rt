@@ -4,35 +4,35 @@ ghost use Rattle.rehearsal.specs.declared.calls.Answer.{Answer};
 
 use link::{Kind, LinkFault};
 
-// What is asked of an end: to write or take what the request says, or to tell its number. An `Option` of a request would not say what is asked where there is none.
+// What is asked of an end: to take or write its input, or to tell its number. An `Option` of an input would not say what is asked where there is none.
 #[derive(Clone, PartialEq, Eq, Drop)]
-pub enum Ask<Q> {
-    Make(Q),
+pub enum Request<I> {
+    Process(I),
     Tell,
 }
 
-// What an end answers: what it made, or why it refuses; the number told.
+// What an end answers: its output, or why it refuses; the number told.
 #[derive(Clone, Copy, Debug, PartialEq, Eq)]
-pub enum Answer<T> {
-    Made(Result<T, LinkFault>),
+pub enum Answer<O> {
+    Processed(Result<O, LinkFault>),
     Told(u32),
 }
 
 #[derive(PartialEq, Eq, Drop)]
-pub struct Call<Q, T> {
-    pub ask: Ask<Q>,
-    // for what is made: the text of a frame that is taken, or the frame of a text that is written
+pub struct Call<I, O> {
+    pub request: Request<I>,
+    // for the text of a frame that is taken, or the frame of a text that is written
     pub buffer: Vec<u8>,
-    pub answer: Answer<T>,
+    pub answer: Answer<O>,
 }
 
-impl<Q: Drop, T: Drop> Call<Q, T> {
+impl<I: Drop, O: Drop> Call<I, O> {
     // A call that is to be made. Until then it reads as if a zero were told: the law reads an answer of each call, and a rehearsal fills in every one, so there is no Option.
-    pub fn new(ask: Ask<Q>, buffer: Vec<u8>) -> Call<Q, T>
-        ensures { result ≡ record { ask = ask; buffer = buffer; answer = Answer.Told 0 } }
+    pub fn new(request: Request<I>, buffer: Vec<u8>) -> Call<I, O>
+        ensures { result ≡ record { request = request; buffer = buffer; answer = Answer.Told 0 } }
     {
         Call {
-            ask,
+            request,
             buffer,
             answer: Answer::Told(0),
         }
@@ -47,7 +47,7 @@ pub struct Message {
 }
 
 // A receiving end is asked to take a frame, and answers its kind.
-pub type Exchange = Call<Vec<u8>, Kind>;
+pub type ReceivingCall = Call<Vec<u8>, Kind>;
 
 // A sending end is asked to write a message, and answers the frame's length and the number that it carries.
-pub type Dispatch = Call<Message, (usize, u32)>;
+pub type SendingCall = Call<Message, (usize, u32)>;

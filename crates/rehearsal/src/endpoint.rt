@@ -2,40 +2,40 @@
 ghost use Rattle.std.specs.Prelude.{◌≡◌};
 ghost use Rattle.link.specs.Calls.{stands};
 ghost use Rattle.link.specs.Frames.{started};
-ghost use Rattle.rehearsal.specs.Rehearsals.{Effect, taking, writing, One, Along};
+ghost use Rattle.rehearsal.specs.Law.{Run};
+ghost use Rattle.rehearsal.specs.Rehearsals.{Transition, taking, writing, Answered};
 
-use crate::calls::{Answer, Ask, Call, Message};
+use crate::calls::{Answer, Call, Message, Request};
 use duplex::Engine;
 use link::{End, Kind, LinkFault, Receiving, ReceivingEnd, Sending, SendingEnd};
 use session::{Key, Nonce};
 
-// What an end of a direction makes of a request: all else the ends have in common.
+// What an end of a direction makes of an input: all else the ends have in common.
 pub trait Direction {
-    type Request;
+    type Input;
 
-    type Made: Drop;
+    type Output: Drop;
 
-    // what comes of a request, by where the end stands
-    ghost effect: { Effect Self.Request Self.Made };
+    ghost transition: { Transition Self.Input Self.Output };
 
-    fn make<E: Engine>(
+    fn process<E: Engine>(
         end: &mut End<E, Self>,
-        request: &Self::Request,
+        input: &Self::Input,
         buffer: &mut [u8],
-    ) -> Result<Self::Made, LinkFault>
-        ensures answer { result ≡ effect.answer (stands E.bits end.old) request.now buffer.old }
-        ensures buffer { buffer.new ≡ effect.buffer (stands E.bits end.old) request.now buffer.old }
-        ensures moved { stands E.bits end.new ≡ effect.standing (stands E.bits end.old) request.now buffer.old };
+    ) -> Result<Self::Output, LinkFault>
+        ensures answer { result ≡ transition.answer (stands E.bits end.old) input.now buffer.old }
+        ensures buffer { buffer.new ≡ transition.buffer (stands E.bits end.old) input.now buffer.old }
+        ensures moved { stands E.bits end.new ≡ transition.standing (stands E.bits end.old) input.now buffer.old };
 }
 
 impl Direction for Receiving {
-    type Request = Vec<u8>;
+    type Input = Vec<u8>;
 
-    type Made = Kind;
+    type Output = Kind;
 
-    ghost effect = { taking };
+    ghost transition = { taking };
 
-    fn make<E: Engine>(
+    fn process<E: Engine>(
         end: &mut ReceivingEnd<E>,
         frame: &Vec<u8>,
         text: &mut [u8],
@@ -45,13 +45,13 @@ impl Direction for Receiving {
 }
 
 impl Direction for Sending {
-    type Request = Message;
+    type Input = Message;
 
-    type Made = (usize, u32);
+    type Output = (usize, u32);
 
-    ghost effect = { writing };
+    ghost transition = { writing };
 
-    fn make<E: Engine>(
+    fn process<E: Engine>(
         end: &mut SendingEnd<E>,
         message: &Message,
         frame: &mut [u8],
@@ -64,9 +64,9 @@ impl Direction for Sending {
 pub fn play<E: Engine, D: Direction>(
     key: &Key,
     nonce: &Nonce,
-    calls: &mut [Call<D::Request, D::Made>],
+    calls: &mut [Call<D::Input, D::Output>],
 ) -> End<E, D>
-    ensures { Along (One D.effect) (started key.now.bytes nonce.now.bytes) calls.old calls.new (stands E.bits result) }
+    ensures { Run (Answered D.transition) (started key.now.bytes nonce.now.bytes) calls.old calls.new (stands E.bits result) }
 {
     let mut end = End::begin(key, nonce);
     for call in calls.iter_mut() {
@@ -76,11 +76,13 @@ pub fn play<E: Engine, D: Direction>(
 }
 
 // One call.
-fn respond<E: Engine, D: Direction>(end: &mut End<E, D>, call: &mut Call<D::Request, D::Made>)
-    ensures { One D.effect (stands E.bits end.old) call.old call.new (stands E.bits end.new) }
+fn respond<E: Engine, D: Direction>(end: &mut End<E, D>, call: &mut Call<D::Input, D::Output>)
+    ensures { Answered D.transition (stands E.bits end.old) call.old call.new (stands E.bits end.new) }
 {
-    call.answer = match &call.ask {
-        Ask::Make(request) => Answer::Made(D::make(end, request, call.buffer.as_mut_slice())),
-        Ask::Tell => Answer::Told(end.tell()),
+    call.answer = match &call.request {
+        Request::Process(input) => {
+            Answer::Processed(D::process(end, input, call.buffer.as_mut_slice()))
+        }
+        Request::Tell => Answer::Told(end.tell()),
     };
 }

@@ -1,8 +1,8 @@
 // Rehearsals: whole runs of two receiving ends and a sending end, with one key and nonce.
 #![tactic(auto)]
 
-ghost use Rattle.link.specs.Calls.{receiving, sending};
-ghost use Rattle.rehearsal.specs.Rehearsals.{Agreed, Delivered};
+ghost use Rattle.link.specs.Calls.{stands};
+ghost use Rattle.rehearsal.specs.Rehearsals.{EachCall, Agreed};
 
 use crate::endpoint::play;
 use duplex::Engine;
@@ -12,7 +12,7 @@ use session::{Key, Nonce};
 mod calls;
 mod endpoint;
 
-pub use calls::{Answer, Ask, Call, Dispatch, Exchange, Message};
+pub use calls::{Answer, Call, Message, ReceivingCall, Request, SendingCall};
 
 // The three ends of a rehearsal.
 #[derive(Drop)]
@@ -26,12 +26,12 @@ pub struct Ends<R, S, W> {
 pub fn rehearse<R: Engine, S: Engine, W: Engine>(
     key: &Key,
     nonce: &Nonce,
-    calls: &mut [Exchange],
-    again: &mut [Exchange],
-    orders: &mut [Dispatch],
+    calls: &mut [ReceivingCall],
+    again: &mut [ReceivingCall],
+    orders: &mut [SendingCall],
 ) -> Ends<R, S, W>
-    ensures law { Agreed key.now.bytes nonce.now.bytes calls.old calls.new again.old again.new orders.old orders.new (receiving R.Engine.bits result.first) (receiving S.Engine.bits result.second) (sending W.Engine.bits result.sender) }
-    ensures delivered { Delivered calls.old calls.new orders.new }
+    ensures each { EachCall key.now.bytes nonce.now.bytes calls.old calls.new again.old again.new orders.old orders.new (stands R.Engine.bits result.first) (stands S.Engine.bits result.second) (stands W.Engine.bits result.sender) }
+    ensures law { Agreed key.now.bytes nonce.now.bytes calls.old calls.new again.old again.new orders.old orders.new (stands R.Engine.bits result.first) (stands S.Engine.bits result.second) (stands W.Engine.bits result.sender) }
 {
     let first = play(key, nonce, calls);
     let second = play(key, nonce, again);

@@ -2,7 +2,7 @@
 use crate::fault::{Fault, Reason, Trouble};
 use crate::script::{Entry, Figure, Place, Step};
 use link::{Kind, OVERHEAD};
-use rehearsal::{Answer, Ask, Call, Dispatch, Exchange, Message};
+use rehearsal::{Answer, Call, Message, ReceivingCall, Request, SendingCall};
 use std::alloc::{AllocError, Global};
 use std::{fmt, slice};
 
@@ -48,21 +48,22 @@ fn text_room() -> usize {
 }
 
 // A call that asks an end for its number.
-fn telling<Q: Drop, T: Drop>(heap: Global) -> Call<Q, T> {
-    Call::new(Ask::Tell, Vec::new(heap))
+fn telling<I: Drop, O: Drop>(heap: Global) -> Call<I, O> {
+    Call::new(Request::Tell, Vec::new(heap))
 }
 
-// A call with a request, and so much room in its buffer.
-fn making<Q: Drop, T: Drop>(
+// A call with an input, and so much room in its buffer.
+fn processing<I: Drop, O: Drop>(
     heap: Global,
-    request: Q,
+    input: I,
     room: usize,
-) -> Result<Call<Q, T>, AllocError> {
-    Ok(Call::new(Ask::Make(request), vec![in heap; 0; room]?))
+) -> Result<Call<I, O>, AllocError> {
+    let buffer = vec![in heap; 0; room]?;
+    Ok(Call::new(Request::Process(input), buffer))
 }
 
 // The orders that a script has for the panel.
-pub(crate) fn list_orders(heap: Global, entries: &[Entry]) -> Result<Vec<Dispatch>, AllocError> {
+pub(crate) fn list_orders(heap: Global, entries: &[Entry]) -> Result<Vec<SendingCall>, AllocError> {
     let room = text_room().saturating_add(OVERHEAD);
     let mut orders = Vec::new(heap);
     for entry in entries {
@@ -72,7 +73,7 @@ pub(crate) fn list_orders(heap: Global, entries: &[Entry]) -> Result<Vec<Dispatc
                     kind: *kind,
                     text: text.clone()?,
                 };
-                orders.push(making(heap, message, room)?)?;
+                orders.push(processing(heap, message, room)?)?;
             }
             Ok(Step::Tell) => orders.push(telling(heap))?,
             _ => {}
@@ -81,19 +82,19 @@ pub(crate) fn list_orders(heap: Global, entries: &[Entry]) -> Result<Vec<Dispatc
     Ok(orders)
 }
 
-// The frame that a dispatch has written, if it has.
-pub(crate) fn written_frame(dispatch: &Dispatch) -> Option<&[u8]> {
-    match dispatch.answer {
-        Answer::Made(Ok((size, _))) => dispatch.buffer.as_slice().get(..size),
+// The frame that the panel has written in a call, if it has.
+pub(crate) fn written_frame(order: &SendingCall) -> Option<&[u8]> {
+    match order.answer {
+        Answer::Processed(Ok((size, _))) => order.buffer.as_slice().get(..size),
         _ => None,
     }
 }
 
 // The bytes that the head was handed in a call, if it was.
-fn handed_bytes(call: &Exchange) -> Option<&Vec<u8>> {
-    match &call.ask {
-        Ask::Make(bytes) => Some(bytes),
-        Ask::Tell => None,
+fn handed_bytes(call: &ReceivingCall) -> Option<&Vec<u8>> {
+    match &call.request {
+        Request::Process(bytes) => Some(bytes),
+        Request::Tell => None,
     }
 }
 
@@ -102,16 +103,16 @@ fn handed_bytes(call: &Exchange) -> Option<&Vec<u8>> {
 pub struct Courier<'a> {
     heap: Global,
     // the orders that the script has not given yet
-    orders: slice::Iter<'a, Dispatch>,
+    orders: slice::Iter<'a, SendingCall>,
     // the frames written so far, and how many of them have left the panel
     frames: Vec<&'a [u8]>,
     left: usize,
-    calls: Vec<Exchange>,
+    calls: Vec<ReceivingCall>,
     notes: Vec<Note>,
 }
 
 impl<'a> Courier<'a> {
-    pub(crate) fn new(heap: Global, orders: &'a [Dispatch]) -> Courier<'a> {
+    pub(crate) fn new(heap: Global, orders: &'a [SendingCall]) -> Courier<'a> {
         Courier {
             heap,
             orders: orders.iter(),
@@ -137,7 +138,7 @@ impl<'a> Courier<'a> {
 
     // Hands bytes to the head.
     fn offer(&mut self, line: usize, parcel: Parcel, bytes: Vec<u8>) -> Result<(), Trouble> {
-        self.calls.push(making(self.heap, bytes, text_room())?)?;
+        self.calls.push(processing(self.heap, bytes, text_room())?)?;
         self.note(line, Event::Head(Some(parcel)))
     }
 
@@ -255,7 +256,7 @@ impl<'a> Courier<'a> {
     pub(crate) fn carry_all(
         mut self,
         entries: &[Entry],
-    ) -> Result<(Vec<Exchange>, Vec<Note>), AllocError> {
+    ) -> Result<(Vec<ReceivingCall>, Vec<Note>), AllocError> {
         for entry in entries {
             self.carry(entry)?;
         }

@@ -71,6 +71,7 @@ fn rehearse_script(rt: &HostRuntime, screen: &mut Screen<'_>, name: &str) -> any
     };
     let all = stage::perform(rt.alloc(), &opening, script.entries.as_slice())?;
     let good = screen.print_rehearsal(&all)?;
+    ensure!(all.second_agrees(), "the second end differs from head");
     ensure!(good, "not every line was carried out");
     Ok(())
 }

@@ -1,7 +1,7 @@
 // All the frames that two ends have numbers for.
 use crate::script::Opening;
 use duplex::Engine;
-use link::{Kind, NUMBER_LIMIT, LinkFault, OVERHEAD, ReceivingEnd, SendingEnd};
+use link::{Kind, LinkFault, NUMBER_LIMIT, OVERHEAD, ReceivingEnd, SendingEnd};
 
 // The bytes of a heartbeat's frame, whose text is empty.
 const FRAME: usize = OVERHEAD;

@@ -7,7 +7,7 @@ use crate::stage::Rehearsed;
 use digits::Hex;
 use link::{Kind, LinkFault};
 use refusals::Refusal;
-use rehearsal::{Answer, Dispatch, Exchange};
+use rehearsal::{Answer, ReceivingCall, SendingCall};
 use std::io::{BufWriter, Write};
 use std::rt::Stdout;
 use std::{fmt, io, slice};
@@ -47,16 +47,20 @@ impl<'a> fmt::Display for Text<'a> {
 
 // What the panel answered.
 #[derive(Clone, Copy)]
-struct Panel<'a>(&'a Dispatch);
+struct Panel<'a>(&'a SendingCall);
 
 impl<'a> fmt::Display for Panel<'a> {
     fn fmt<W: fmt::Write>(&self, f: &mut fmt::Formatter<W>) -> fmt::Result {
         match self.0.answer {
-            Answer::Made(Ok((size, number))) => {
+            Answer::Processed(Ok((size, number))) => {
                 let frame = front(self.0.buffer.as_slice(), size);
                 write!(f, "panel wrote frame {number}, {size} bytes: {frame}")
             }
-            Answer::Made(Err(fault)) => write!(f, "panel refused to write: {}", Refused(fault)),
+            Answer::Processed(Err(fault)) => write!(
+                f,
+                "panel refused to write: {}",
+                Refused(fault)
+            ),
             Answer::Told(number) => write!(f, "panel tells {number}"),
         }
     }
@@ -77,17 +81,17 @@ impl fmt::Display for Handed {
 
 // What the head answered.
 #[derive(Clone, Copy)]
-struct Head<'a>(Handed, &'a Exchange);
+struct Head<'a>(Handed, &'a ReceivingCall);
 
 impl<'a> fmt::Display for Head<'a> {
     fn fmt<W: fmt::Write>(&self, f: &mut fmt::Formatter<W>) -> fmt::Result {
         let Head(handed, call) = self;
         match call.answer {
-            Answer::Made(Ok(kind)) => {
+            Answer::Processed(Ok(kind)) => {
                 let text = Text(kind, call.buffer.as_slice());
                 write!(f, "head took {handed}: {text}")
             }
-            Answer::Made(Err(fault)) => write!(f, "head refused {handed}: {}", Refused(fault)),
+            Answer::Processed(Err(fault)) => write!(f, "head refused {handed}: {}", Refused(fault)),
             Answer::Told(number) => write!(f, "head tells {number}"),
         }
     }
@@ -176,15 +180,15 @@ impl<'a> Screen<'a> {
         &mut self,
         line: usize,
         event: Event,
-        orders: &mut slice::Iter<'_, Dispatch>,
-        calls: &mut slice::Iter<'_, Exchange>,
+        orders: &mut slice::Iter<'_, SendingCall>,
+        calls: &mut slice::Iter<'_, ReceivingCall>,
     ) -> io::Result<()> {
         match event {
             Event::Opened => writeln!(self.out, "{line}: panel, head and second end are open")?,
             Event::Lost(frame) => writeln!(self.out, "{line}: frame {frame} is lost")?,
             Event::Panel => {
-                if let Some(dispatch) = orders.next() {
-                    writeln!(self.out, "{line}: {}", Panel(dispatch))?;
+                if let Some(order) = orders.next() {
+                    writeln!(self.out, "{line}: {}", Panel(order))?;
                 }
             }
             Event::Head(parcel) => {

@@ -4,7 +4,7 @@ use crate::script::{Entry, Opening};
 use duplex::Engine;
 use plain::Plain;
 use postponed::Postponed;
-use rehearsal::{Answer, Ask, Call, Dispatch, Ends, Exchange, rehearse};
+use rehearsal::{Answer, Call, Ends, ReceivingCall, Request, SendingCall, rehearse};
 use std::alloc::{AllocError, Global};
 use words::Packed;
 
@@ -13,26 +13,26 @@ type Cast = Ends<Plain, Packed, Postponed>;
 
 #[derive(Drop)]
 pub struct Rehearsed {
-    pub orders: Vec<Dispatch>,
-    pub calls: Vec<Exchange>,
-    pub again: Vec<Exchange>,
+    pub orders: Vec<SendingCall>,
+    pub calls: Vec<ReceivingCall>,
+    pub again: Vec<ReceivingCall>,
     pub notes: Vec<Note>,
     ends: Cast,
 }
 
 // Whether the head has not refused.
-fn is_kept(call: &Exchange) -> bool {
-    !matches!(call.answer, Answer::Made(Err(_)))
+fn is_kept(call: &ReceivingCall) -> bool {
+    !matches!(call.answer, Answer::Processed(Err(_)))
 }
 
 // The same call, not yet answered.
-fn unanswered(heap: Global, call: &Exchange) -> Result<Exchange, AllocError> {
+fn unanswered(heap: Global, call: &ReceivingCall) -> Result<ReceivingCall, AllocError> {
     let buffer = vec![in heap; 0; call.buffer.len()]?;
-    Ok(Call::new(call.ask.clone()?, buffer))
+    Ok(Call::new(call.request.clone()?, buffer))
 }
 
 // The calls without the refused frames.
-fn list_kept(heap: Global, calls: &[Exchange]) -> Result<Vec<Exchange>, AllocError> {
+fn list_kept(heap: Global, calls: &[ReceivingCall]) -> Result<Vec<ReceivingCall>, AllocError> {
     let mut kept = Vec::new(heap);
     for call in calls.iter().filter(|call| is_kept(call)) {
         kept.push(unanswered(heap, call)?)?;
@@ -76,9 +76,9 @@ pub(crate) fn perform(
 }
 
 // The frame that the head has accepted in a call, if it has.
-fn accepted_frame(call: &Exchange) -> Option<&[u8]> {
-    match (&call.answer, &call.ask) {
-        (Answer::Made(Ok(_)), Ask::Make(frame)) => Some(frame.as_slice()),
+fn accepted_frame(call: &ReceivingCall) -> Option<&[u8]> {
+    match (&call.answer, &call.request) {
+        (Answer::Processed(Ok(_)), Request::Process(frame)) => Some(frame.as_slice()),
         _ => None,
     }
 }

@@ -1,11 +1,11 @@
 -- One call more, and the whole run.
 use Rattle.std.proofs.Common.{arith}
-use Rattle.rehearsal.specs.Rehearsals.{One}
+use Rattle.rehearsal.specs.Rehearsals.{Answered}
 use Rattle.rehearsal.proofs.Loops.{going_on, going_ends}
 use Rattle.rehearsal.proofs.endpoint.play.Goals as goal
 
 pub loop-call-preserved : goal.loop-call-preserved
-loop-call-preserved g c = going_on (One g.D.Direction.effect) _ _ _ _ (omega arith) c.respond.ensures c.loop-call.invariant
+loop-call-preserved g c = going_on (Answered g.D.Direction.transition) _ _ _ _ (omega arith) c.respond.ensures c.loop-call.invariant
 
 pub returns : goal.returns
-returns g c = going_ends (One g.D.Direction.effect) _ c.loop-call.call-index (omega arith) c.loop-call.invariant
+returns g c = going_ends (Answered g.D.Direction.transition) _ c.loop-call.call-index (omega arith) c.loop-call.invariant

@@ -3,21 +3,21 @@ use Rattle.std.proofs.Common.{◌≡◌, length, Err, sym, ap, ◌∙◌, ap₂,
 use Rattle.std.proofs.lemmas.Result.{err_from_is_err_and}
 use Rattle.link.specs.declared.fault.LinkFault.TheVariants.{Session}
 use Rattle.link.specs.Frames.{standing_of}
-use Rattle.link.specs.Calls.{receiving, take_standing, take_text}
+use Rattle.link.specs.Calls.{stands, take_standing, take_text}
 use Rattle.link.proofs.Tellings.{take_tells}
 use Rattle.link.proofs.Takings.{quiet, took_ok, took_tag, zeroed}
 use Rattle.link.proofs.receiving.ReceivingEnd+E.take.Goals as goal
 
 pub returns-in_err-kind-clause-text : goal.returns-in_err-kind-clause-text
 returns-in_err-kind-clause-text g c =
-    let m = receiving g.E.Engine.bits c.args.self.now in
+    let m = stands g.E.Engine.bits c.args.self.now in
     let old = c.args.text.now in
     let p = err_from_is_err_and c.from_residual.result c.from_residual.ensures.1 in
     sym (ap (take_text m c.args.frame.now old) (p.1 ∙ ap Err p.2) ∙ quiet m c.args.frame.now (length old) old _ c.in_err-kind.ensures)
 
 pub returns-in_err-open : goal.returns-in_err-open
 returns-in_err-open g c =
-    let m = receiving g.E.Engine.bits c.args.self.now in
+    let m = stands g.E.Engine.bits c.args.self.now in
     let f = c.args.frame.now in
     let old = c.args.text.now in
     let cut = c.parts.ensures in
@@ -34,7 +34,7 @@ returns-in_err-open g c =
 
 pub returns : goal.returns
 returns g c =
-    let m = receiving g.E.Engine.bits c.args.self.now in
+    let m = stands g.E.Engine.bits c.args.self.now in
     let f = c.args.frame.now in
     let old = c.args.text.now in
     let cut = c.parts.ensures in
