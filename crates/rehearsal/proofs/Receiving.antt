@@ -1,11 +1,11 @@
 -- Runs of a receiving end: each step is right; refused frames leave no trace; the frames alone settle the answers.
-use Rattle.std.proofs.Common.{◌≡◌, ℕ, ◌+◌, ◌≤◌, List, [], ◌∷◌, map, length, take, drop, Some, Ok, Err, vec_items, Vec, sym, refl, ap, ◌∙◌, subst, ap₂}
+use Rattle.std.proofs.Common.{◌≡◌, ℕ, ◌+◌, ◌≤◌, List, ◌∷◌, map, length, take, drop, Ok, Err, vec_items, Vec, sym, refl, ap, ◌∙◌, subst, ap₂}
 use Rattle.std.specs.declared.alloc.Global.{Global}
 use Rattle.std.proofs.lemmas.List.{take_at}
 use Rattle.link.specs.declared.kind.Kind.{Kind}
 use Rattle.link.specs.Kinds.{kind_byte, text_length, least_room, kind_of}
 use Rattle.link.specs.Frames.{Standing, ciphertext_in, text_in}
-use Rattle.link.specs.Sender.{writes, fed}
+use Rattle.link.specs.Sender.{fed}
 use Rattle.link.specs.Calls.{Checked, take_answer, take_standing, take_text}
 use Rattle.link.proofs.Suite.{kind_byte_of, accepted_is, accepted-writes, accepted-stands, only, refused_never}
 use Rattle.rehearsal.specs.declared.calls.Request.{Request}

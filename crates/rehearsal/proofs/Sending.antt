@@ -1,12 +1,10 @@
 -- Runs of a sending end: each step is right.
-use Rattle.std.proofs.Common.{◌≡◌, ℕ, ◌+◌, ◌<◌, ◌≤◌, List, ◌++◌, map, length, drop, Some, None, Err, vec_items, sym, refl, ap, ◌∙◌, subst, arith}
-use Rattle.refusals.specs.Tables.{first_of}
+use Rattle.std.proofs.Common.{◌≡◌, ℕ, ◌+◌, ◌<◌, ◌≤◌, List, ◌++◌, map, length, drop, Some, None, Err, vec_items, sym, ap, ◌∙◌, subst, arith}
 use Rattle.link.specs.declared.kind.Kind.{Kind}
 use Rattle.link.specs.declared.fault.LinkFault.{LinkFault}
 use Rattle.link.specs.Kinds.{text_length, kind_of}
 use Rattle.link.specs.Frames.{Standing, number_limit, overhead}
 use Rattle.link.specs.Sender.{frame_of, next_of, writes, fed}
-use Rattle.link.specs.Refusals as link
 use Rattle.link.specs.Calls.{Checked, vetted, wrote_pair, wrote_standing, wrote_out}
 use Rattle.link.proofs.Suite.{byte_of_kind, writes_at_limit, writes_no_kind, writes_no_text, writes_frame, fed_next, frame_length}
 use Rattle.link.proofs.Writings.{Vetted, vetted_is, view}

@@ -1,11 +1,11 @@
 -- Both ends of a link: the frames that pass between them settle where each stands.
-use Rattle.std.proofs.Common.{◌≡◌, ℕ, ◌+◌, Bool, true, false, cond, List, [], ◌∷◌, length, take, drop, Some, sym, refl, ap, ◌∙◌, subst, add-zero, arith}
+use Rattle.std.proofs.Common.{◌≡◌, ℕ, ◌+◌, Bool, false, cond, List, [], ◌∷◌, length, drop, Some, sym, refl, ap, ◌∙◌, subst, add-zero, arith}
 use Rattle.std.proofs.lemmas.List.{take_at}
 use Rattle.link.specs.Kinds.{kind_byte}
 use Rattle.link.specs.Frames.{Standing, started}
 use Rattle.link.specs.Sender.{writes, fed, next_of}
-use Rattle.link.proofs.Suite.{wrote, fed_next, only}
-use Rattle.rehearsal.specs.Law.{Run, Place, Call, Answer, Feeds, RightAnswer, ReceivingStep, ReceivingRun, is_refused, without_refused, frames_handed, frames_accepted, Writing, Written, RightWriting, SendingRun, frames_written}
+use Rattle.link.proofs.Suite.{wrote, fed_next}
+use Rattle.rehearsal.specs.Law.{Run, Place, Call, Answer, Feeds, RightAnswer, ReceivingRun, is_refused, without_refused, frames_handed, frames_accepted, Writing, Written, RightWriting, SendingRun, frames_written}
 use Rattle.rehearsal.specs.Law.Call.{take_frame, tell}
 use Rattle.rehearsal.specs.Law.Feeds.{next_frame, other_frame, telling}
 use Rattle.rehearsal.proofs.Receiving.{one_feeding}
