@@ -1,3 +1,4 @@
 pub mod Tables
+pub mod BitLaws
 pub mod StateLaws
 pub mod StepLaws

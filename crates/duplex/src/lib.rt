@@ -7,7 +7,7 @@ ghost use Rattle.duplex.specs.State.{IsState, zeros, step, reading};
 mod figures;
 mod table;
 
-pub use figures::{step_counts, worked_figures};
+pub use figures::{padded_blocks, step_counts, worked_figures};
 pub use table::positions;
 
 // A representation of the 257 bits. `bits` says which bits a value means.

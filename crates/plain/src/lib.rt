@@ -37,7 +37,7 @@ fn add_block(cells: &mut [u8; 257], block: u64)
 impl Engine for Plain {
     ghost bits = { λ e. e.cells };
 
-    ghost means = { λ e. record { width = e.width; bits = e.binary } };
+    ghost means = { λ e. record { width = e.width; binary = e.binary } };
 
     fn new() -> Plain {
         Plain { cells: [0u8; 257] }

@@ -2,13 +2,11 @@
 use Rattle.std.proofs.Common.{◌≡◌, ℕ, zero, suc, ◌+◌, ◌*◌, ◌%◌, ◌^◌, ◌<◌, Bool, true, ◌||◌, eqb, ltb, List, length, get_or, sym, refl, ap, ◌∙◌, subst, ⊎_elim, add-one, arith}
 use native.Mathlib.Nat.{pow-succ'}
 use Rattle.std.proofs.lemmas.Nat.{pow-add}
-use Rattle.std.proofs.lemmas.List.{get_or_past}
 use Rattle.std.proofs.lemmas.Bool.{cases_lt, eqb-true, ne_eqb, ltb-true}
-use Rattle.duplex.specs.State.{position, positions}
-use Rattle.duplex.proofs.StepLaws.{getD_positions, position_range}
-use Rattle.duplex.proofs.Tables.{every, every_at}
+use Rattle.duplex.specs.State.{position}
+use Rattle.duplex.proofs.Tables.{every, every_at, below_at}
 use Rattle.words.specs.Packing.{place_by}
-use Rattle.words.specs.ModLaws.{cut_right}
+use Rattle.words.proofs.ModLaws.{cut_right}
 use Rattle.postponed.specs.Powers.{IsPowers, power_of_12, powers_of_12, place_of, logarithms_of_12}
 
 -- the entry after x, the table taken as a ring, is 12 times x
@@ -58,6 +56,11 @@ getD_powers n h = let e : n ≡ n % 256 = omega arith in ap (λ k. get_or powers
 pub turned : (m : ℕ) → power_of_12 (m % 256) ≡ power_of_12 m
 turned m = sym (getD_powers (m % 256) (omega arith)) ∙ ring_power m
 
+-- every entry of the table, and the 0 past its end
+pub power_below : (t : List ℕ) (n : ℕ) → t ≡ powers_of_12 → get_or t n 0 < 257
+unfolding powers_of_12
+power_below t n e = below_at 257 powers_of_12 t (omega arith) refl e n
+
 -- the count that wraps
 pub next-count : (n : ℕ) → 12 * 12 ^ n % 257 ≡ power_of_12 ((n + 1) % 256)
 next-count n = sym (turned (n + 1) ∙ ap (λ x. x % 257) (ap (λ m. 12 ^ m) (add-one n) ∙ pow-succ' 12 n))
@@ -69,15 +72,6 @@ positive n x = ltb 0 x
 pub power_positive : (n : ℕ) → n < 256 → 0 < power_of_12 n
 unfolding powers_of_12
 power_positive n h = subst (λ x. 0 < x) (getD_powers n h) (ltb-true 0 _ (every_at positive powers_of_12 refl n h))
-
--- every entry of the table of positions, and the 0 past its end
-pub position_below : (t : List ℕ) (j : ℕ) → t ≡ positions → get_or t j 0 < 257
-unfolding positions
-position_below t j e =
-    ⊎_elim
-    (λ l. subst (λ p. p < 257) (sym (ap (λ t. get_or t j 0) e ∙ getD_positions j l)) (position_range j l).1)
-    (λ l. subst (λ p. p < 257) (sym (ap (λ t. get_or t j 0) e ∙ get_or_past positions j 0 l)) (omega arith))
-    (cases_lt j 33)
 
 -- the place of a position, by a logarithm of it
 pub place_logarithm : (n l j : ℕ) → power_of_12 l ≡ position j → power_of_12 ((n + l) % 256) ≡ place_by (12 ^ n) j

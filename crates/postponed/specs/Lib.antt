@@ -1,4 +1,2 @@
 pub mod Powers
-pub mod Stretch
 pub mod Meaning
-pub mod StretchLaws

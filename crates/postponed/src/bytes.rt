@@ -18,7 +18,8 @@ impl Postponed {
 
     // The seven high places of the last byte are not read.
     pub fn from_bytes(bytes: &[u8; 33]) -> Postponed
-        ensures { meant result ≡ state_of_bytes bytes.now }
+        ensures means { meant result ≡ state_of_bytes bytes.now }
+        ensures count { result.count.value ≡ 0 }
     {
         Postponed {
             words: Words::from_bytes(bytes),

@@ -5,7 +5,7 @@ ghost use Rattle.postponed.specs.Powers.{power_of_12};
 use crate::logarithm::logarithms;
 use crate::table::powers;
 use duplex::positions;
-use words::{Lane, Places, Residue};
+use words::{Places, PositionIndex, Residue};
 
 #[derive(Clone, Copy)]
 pub struct Count {
@@ -37,8 +37,8 @@ impl Places for Count {
     ghost factor = { λ e. 12 ^ e.value };
 
     // A product of powers is the power of a sum.
-    fn place(&self, lane: Lane) -> Residue {
-        let position = positions()[lane.number];
+    fn place(&self, index: PositionIndex) -> Residue {
+        let position = positions()[index.number];
         let logarithm = u32::from(logarithms()[position as usize]);
         let sum = Count {
             value: (self.value + logarithm) % 256,

@@ -1,11 +1,11 @@
 // The postponed engine: packed bits a, and the count n of shuffles that are owed. Bit i of the state is found at a(12^n × i).
 ghost use Rattle.std.specs.Prelude.{◌≡◌, ◌+◌, ◌%◌, ◌^◌};
-ghost use Rattle.duplex.specs.State.{step};
-ghost use Rattle.words.specs.Packing.{cells, inject_by, round_by};
+ghost use Rattle.duplex.specs.State.{zeros, step};
+ghost use Rattle.words.specs.Packing.{state_of_words, inject_by, round_by};
+ghost use Rattle.postponed.specs.Meaning.{meant};
 ghost use Rattle.postponed.specs.Powers.{power_of_12};
-ghost use Rattle.postponed.specs.Stretch.{stretch};
-ghost use Rattle.words.specs.WordLaws.{cells-state};
-ghost use Rattle.postponed.specs.StretchLaws.{stretch-state};
+ghost use Rattle.words.specs.StateLaw.{words-state};
+ghost use Rattle.words.proofs.StretchLaws.{stretch-state};
 
 use crate::count::Count;
 use duplex::Engine;
@@ -18,11 +18,14 @@ pub struct Postponed {
 }
 
 impl Engine for Postponed {
-    ghost bits = { λ e. stretch (12 ^ e.count.value) (cells e.words.array) };
+    ghost bits = { λ e. meant e };
 
-    ghost means = { λ e. stretch-state _ (cells e.words.array) (cells-state e.words.array) };
+    ghost means = { λ e. stretch-state _ _ (words-state e.words.array) };
 
-    fn new() -> Postponed {
+    fn new() -> Postponed
+        ensures means { meant result ≡ zeros }
+        ensures count { result.count.value ≡ 0 }
+    {
         Postponed {
             words: Words::new(),
             count: Count { value: 0 },
@@ -31,21 +34,25 @@ impl Engine for Postponed {
 
     // Distances are for the count before the round, positions for the count after it.
     fn step(&mut self, block: u64)
-        ensures means { stretch (12 ^ self.new.count.value) (cells self.new.words.array) ≡ step (stretch (12 ^ self.old.count.value) (cells self.old.words.array)) block }
+        ensures means { meant self.new ≡ step (meant self.old) block }
         ensures count { self.new.count.value ≡ (self.old.count.value + 1) % 256 }
-        ensures words { cells self.new.words.array ≡ inject_by (12 ^ self.new.count.value) (round_by (power_of_12 self.old.count.value) (cells self.old.words.array)) block }
+        ensures words { state_of_words self.new.words.array ≡ inject_by (12 ^ self.new.count.value) (round_by (power_of_12 self.old.count.value) (state_of_words self.old.words.array)) block }
     {
         let mut words = self.words.round_by(self.count.power());
         let count = self.count.next();
         words.inject_by(block, &count);
-        *self = Postponed { words, count };
+        self.words = words;
+        self.count = count;
     }
 
     fn read(&self) -> u32 {
         self.words.read_by(&self.count)
     }
 
-    fn copy(&self) -> Postponed {
+    fn copy(&self) -> Postponed
+        ensures same { result ≡ self.now }
+        ensures means { meant result ≡ meant self.now }
+    {
         *self
     }
 }

@@ -11,17 +11,17 @@ use Rattle.std.proofs.lemmas.Bool.{cases_lt, cases_eq}
 use Rattle.duplex.specs.State.{bit, number}
 use Rattle.duplex.specs.Bytes.{byte_of_state, bytes_of_state, state_of_bytes}
 use Rattle.duplex.proofs.StateLaws.{getD_state, length-state, state_ext}
-use Rattle.words.specs.Packing.{word_bit, cells}
-use Rattle.words.specs.BitLaws.{bit_shr, bit_cut, bit_past}
+use Rattle.words.specs.Packing.{word_bit, state_of_words}
+use Rattle.duplex.proofs.BitLaws.{bit_shr, bit_cut, bit_past}
 
 -- byte k of a row of words
 abbrev pub word_byte : List ℕ → ℕ → ℕ
 word_byte ws k = get_or ws (k / 4) 0 / 2 ^ (8 * (k % 4)) % 2 ^ 8
 
-pub cells-bytes : (ws bytes : List ℕ) → ((k : ℕ) → k < 32 → word_byte ws k ≡ get_or bytes k 0) → get_or ws 8 0 % 2 ≡ get_or bytes 32 0 % 2
-    → cells ws ≡ state_of_bytes bytes
-unfolding cells state_of_bytes
-cells-bytes ws bytes low last = state_ext _ _ (λ i h.
+pub words-bytes : (ws bytes : List ℕ) → ((k : ℕ) → k < 32 → word_byte ws k ≡ get_or bytes k 0) → get_or ws 8 0 % 2 ≡ get_or bytes 32 0 % 2
+    → state_of_words ws ≡ state_of_bytes bytes
+unfolding state_of_words state_of_bytes
+words-bytes ws bytes low last = state_ext _ _ (λ i h.
     ⊎_elim
     (λ l. let word : i / 32 ≡ i / 8 / 4 = omega arith in
     let place : i % 32 ≡ 8 * (i / 8 % 4) + i % 8 = omega arith in
@@ -66,11 +66,11 @@ word_bytes_more ws bytes blocks n k v eb hk l fits below e m h =
 
 -- and a last word of one bit
 pub last_word : (ws bytes : List ℕ) (v : ℕ) → length ws ≡ 9 → v ≡ bit_and (get_or bytes 32 0) 1 → ((m : ℕ) → m < 32 → word_byte ws m ≡ get_or bytes m 0)
-    → (get_or (set ws 8 v) 8 0 < 2) × (cells (set ws 8 v) ≡ state_of_bytes bytes)
+    → (get_or (set ws 8 v) 8 0 < 2) × (state_of_words (set ws 8 v) ≡ state_of_bytes bytes)
 last_word ws bytes v long e low =
     let one : get_or (set ws 8 v) 8 0 ≡ get_or bytes 32 0 % 2 = get_or-set_same ws 8 v 0 (omega arith) ∙ (e ∙ and_mask (get_or bytes 32 0) 1) in (
       omega (arith, one),
-      cells-bytes (set ws 8 v) bytes
+      words-bytes (set ws 8 v) bytes
           (λ k h. ap (λ n. n / 2 ^ (8 * (k % 4)) % 2 ^ 8) (get_or-set_other ws 8 (k / 4) v 0 (λ q. omega arith)) ∙ low k h) (omega (arith, one)),
     )
 

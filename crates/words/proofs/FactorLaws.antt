@@ -1,17 +1,13 @@
 -- With factor 1 the steps are those of the state itself.
-use Rattle.std.proofs.Common.{◌≡◌, ℕ, List, [], ◌∷◌, map, refl, ap, ◌∙◌, one-mul, arith}
+use Rattle.std.proofs.Common.{◌≡◌, ℕ, List, [], ◌∷◌, refl, ap, ◌∙◌, arith}
 use Rattle.std.specs.List.{range_with_len}
-use Rattle.duplex.specs.State.{bit, add_at, add_bits, position, number, read_bit, chi, theta, pi, round, inject, step, reading}
-use Rattle.words.specs.Packing.{mixed, round_by, place_by, inject_by, read_bit_by, reading_by}
+use Rattle.duplex.specs.State.{bit, add_at, add_bits, position, chi, theta, pi, round, inject, step}
+use Rattle.words.specs.Packing.{mixed, round_by, place_by, inject_by}
 
 -- bits added at places that are equal
 pub add_bits_ext : (p q : ℕ → ℕ) → ((j : ℕ) → p j ≡ q j) → (x : ℕ) (js s : List ℕ) → add_bits p x s js ≡ add_bits q x s js
 add_bits_ext p q e x [] s = refl
 add_bits_ext p q e x (j ∷ js) s = ap (λ n. add_bits p x (add_at s n (bit x j)) js) (e j) ∙ add_bits_ext p q e x js (add_at s (q j) (bit x j))
-
-pub map_ext : (f g : ℕ → ℕ) → ((j : ℕ) → f j ≡ g j) → (js : List ℕ) → map f js ≡ map g js
-map_ext f g e [] = refl
-map_ext f g e (j ∷ js) = ap (λ n. n ∷ map f js) (e j) ∙ ap (λ l. g j ∷ l) (map_ext f g e js)
 
 round_one : (s : List ℕ) → pi (round_by 1 s) ≡ round s
 unfolding round round_by chi theta mixed
@@ -20,10 +16,6 @@ round_one s = refl
 inject_one : (s : List ℕ) (x : ℕ) → inject_by 1 s x ≡ inject s x
 unfolding inject inject_by position
 inject_one s x = add_bits_ext (place_by 1) position (λ j. omega arith) x (range_with_len 0 33) s
-
-pub reading_one : (s : List ℕ) → reading_by 1 s ≡ reading s
-unfolding reading reading_by
-reading_one s = ap number (map_ext (read_bit_by 1 s) (read_bit s) (λ j. simp one-mul) (range_with_len 0 32))
 
 pub step_one : (s t : List ℕ) (x : ℕ) → t ≡ pi (round_by 1 s) → inject_by 1 t x ≡ step s x
 unfolding step

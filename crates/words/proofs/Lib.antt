@@ -1,3 +1,6 @@
+pub mod BitLaws
+pub mod ModLaws
+pub mod WordLaws
 pub mod RowLaws
 pub mod FactorLaws
 pub mod ReadLaws

@@ -1,4 +1,4 @@
--- A row of words, read from any place on, and the row that has the 257 bits twice.
+-- A row of words, read from any place on, and the row that has the 257 bits twice and then zeros.
 use Rattle.std.proofs.Common.{◌≡◌, ℕ, ◌+◌, ◌-◌, ◌*◌, ◌/◌, ◌%◌, ◌^◌, ◌<◌, ◌≤◌, List, length, get_or, set, sym, refl, ap, ◌∙◌, ⊎_elim, arith, pow_mono}
 use lib.Bits.{bit_and, bit_or}
 use Rattle.std.proofs.lemmas.Nat.{and_mask}
@@ -6,8 +6,9 @@ use Rattle.std.proofs.lemmas.List.{get_or-set_same, get_or-set_other}
 use Rattle.std.proofs.lemmas.Bool.{cases_lt, cases_eq}
 use Rattle.duplex.specs.State.{bit}
 use Rattle.duplex.proofs.StateLaws.{at_state, state_ext}
-use Rattle.words.specs.Packing.{word_bit, cells, rotated}
-use Rattle.words.specs.BitLaws.{or_first, or_second, bit_past, bit_shr, shl_low, shl_high}
+use Rattle.words.specs.Packing.{word_bit, state_of_words, rotated}
+use Rattle.duplex.proofs.BitLaws.{bit_past, bit_shr}
+use Rattle.words.proofs.BitLaws.{bit_zero, or_first, or_second, shl_low, shl_high}
 
 -- a loop that writes the words of a row in turn, told by the bits
 pub words_more : (G : ℕ → ℕ) (ws : List ℕ) (k v : ℕ) → k < length ws → ((m : ℕ) → m < 32 * k → word_bit ws m ≡ G m)
@@ -56,6 +57,7 @@ pub record Laid (w row : List ℕ) (n : ℕ) : Type 0 where
   pub seam : get_or row 8 0 ≡ bit_or (get_or w 8 0) (get_or w 0 0 * 2 ^ 1 % 2 ^ 32)
   pub high : (m : ℕ) → m < n → get_or row (9 + m) 0 ≡ bit_or (get_or w m 0 / 2 ^ 31) (get_or w (m + 1) 0 * 2 ^ 1 % 2 ^ 32)
   pub fits : (m : ℕ) → m < n → get_or w m 0 < 2 ^ 32
+  pub rest : (k : ℕ) → 17 ≤ k → get_or row k 0 ≡ 0
 
 laid_bit : (w row : List ℕ) (n : ℕ) → 8 ≤ n → get_or w 8 0 < 2 → Laid w row n → (j : ℕ) → j < 514 → word_bit row j ≡ word_bit w (j % 257)
 laid_bit w row n all spare is j h =
@@ -95,9 +97,21 @@ module _ (w row : List ℕ) (n : ℕ) (all : 8 ≤ n) (spare : get_or w 8 0 < 2)
       let e : j % 257 ≡ j % 257 % 257 = omega arith in
       laid_bit w row n all spare is j h ∙ (ap (word_bit w) e ∙ sym (laid_bit w row n all spare is (j % 257) (omega arith)))
 
-  pub laid_cells : cells row ≡ cells w
-  unfolding cells
-  laid_cells = state_ext _ _ (λ i h. let e : i % 257 ≡ i = omega arith in laid_bit w row n all spare is i (omega arith) ∙ ap (word_bit w) e)
+  pub laid_words : state_of_words row ≡ state_of_words w
+  unfolding state_of_words
+  laid_words = state_ext _ _ (λ i h. let e : i % 257 ≡ i = omega arith in laid_bit w row n all spare is i (omega arith) ∙ ap (word_bit w) e)
+
+  -- and zeros after them
+  pub laid_past : (j : ℕ) → 514 ≤ j → word_bit row j ≡ 0
+  laid_past j h =
+      let q = j % 32 - 1 in
+      let top : get_or w 7 0 / 2 ^ 31 < 2 = omega (arith, is.fits 7 (omega arith)) in
+      ⊎_elim
+      (λ e. ap (λ n. bit (get_or row n 0) (j % 32)) e ∙ (ap (λ n. bit n (j % 32)) (is.high 7 (omega arith))
+      ∙ (carry_more (get_or w 7 0 / 2 ^ 31) (get_or w 8 0) (j % 32) q top (omega arith) (omega arith)
+      ∙ bit_past (get_or w 8 0) q (omega (arith, pow_mono {i = 1} {j = q} (omega arith))))))
+      (λ ne. ap (λ n. bit n (j % 32)) (is.rest (j / 32) (omega arith)) ∙ bit_zero (j % 32))
+      (cases_eq (j / 32) 16)
 
 -- the last word cut to its one bit
 mask_bit : (t : List ℕ) (m : ℕ) → length t ≡ 9 → m < 257 → word_bit (set t 8 (bit_and (get_or t 8 0) 1)) m ≡ word_bit t m
@@ -113,7 +127,7 @@ mask_bit t m w h =
 
 -- nine words read from place d of a row that has the bits twice, and cut
 pub read_from : (row t : List ℕ) (d : ℕ) → d < 257 → length t ≡ 9 → ((j : ℕ) → j < 514 → word_bit row j ≡ word_bit row (j % 257))
-    → ((m : ℕ) → m < 257 → word_bit t m ≡ word_bit row (m + d)) → cells (set t 8 (bit_and (get_or t 8 0) 1)) ≡ rotated d (cells row)
-unfolding cells rotated
+    → ((m : ℕ) → m < 257 → word_bit t m ≡ word_bit row (m + d)) → state_of_words (set t 8 (bit_and (get_or t 8 0) 1)) ≡ rotated d (state_of_words row)
+unfolding state_of_words rotated
 read_from row t d hd w twice made =
     state_ext _ _ (λ m h. mask_bit t m w h ∙ (made m h ∙ (twice (m + d) (omega arith) ∙ sym (at_state (word_bit row) (m + d)))))

@@ -1,4 +1,2 @@
 pub mod Packing
-pub mod WordLaws
-pub mod BitLaws
-pub mod ModLaws
+pub mod StateLaw

@@ -1,15 +1,15 @@
 -- The state packed into words of 32 bits, and its steps with every distance and position taken times c.
-use Rattle.std.specs.Prelude.{ℕ, ◌+◌, ◌-◌, ◌*◌, ◌/◌, ◌%◌, List, map, slice_index}
+use Rattle.std.specs.Prelude.{ℕ, ◌+◌, ◌*◌, ◌/◌, ◌%◌, List, slice_index}
 use Rattle.std.specs.List.{range_with_len}
-use Rattle.duplex.specs.State.{◌⊕◌, ◌⊗◌, at, state, iota, bit, add_bits, position, number}
+use Rattle.duplex.specs.State.{at, state, chi_rule, theta_rule, iota, bit, add_bits, position}
 
 -- bit i of a row of words: place i mod 32 of word i div 32
 abbrev pub word_bit : List ℕ → ℕ → ℕ
 word_bit ws i = bit (slice_index ws (i / 32)) (i % 32)
 
--- the first 257 bits of a row of words
-unfoldable pub cells : List ℕ → List ℕ
-cells ws = state (word_bit ws)
+-- the state that a row of words holds: its first 257 bits
+unfoldable pub state_of_words : List ℕ → List ℕ
+state_of_words ws = state (word_bit ws)
 
 -- the state whose bit i is bit i + d of s
 unfoldable pub rotated : ℕ → List ℕ → List ℕ
@@ -22,12 +22,6 @@ stretch c s = state (λ i. at s (c * i))
 -- a rule of three bits, of s and of s rotated by d and by e
 unfoldable pub mixed : (ℕ → ℕ → ℕ → ℕ) → ℕ → ℕ → List ℕ → List ℕ
 mixed rule d e s = state (λ i. rule (at s i) (at s (i + d)) (at s (i + e)))
-
-abbrev pub chi_rule : ℕ → ℕ → ℕ → ℕ
-chi_rule a x y = a ⊕ (x ⊕ 1) ⊗ y
-
-abbrev pub theta_rule : ℕ → ℕ → ℕ → ℕ
-theta_rule a x y = a ⊕ x ⊕ y
 
 abbrev pub chi_by : ℕ → List ℕ → List ℕ
 chi_by c s = mixed chi_rule c (2 * c) s
@@ -46,10 +40,3 @@ place_by c j = c * position j % 257
 -- bit j of x added at c times position j
 unfoldable pub inject_by : ℕ → List ℕ → ℕ → List ℕ
 inject_by c s x = add_bits (place_by c) x s (range_with_len 0 33)
-
-abbrev pub read_bit_by : ℕ → List ℕ → ℕ → ℕ
-read_bit_by c s j = at s (c * position j) ⊕ at s (c * (257 - position j))
-
--- the reading at c times the positions
-unfoldable pub reading_by : ℕ → List ℕ → ℕ
-reading_by c s = number (map (read_bit_by c s) (range_with_len 0 32))

@@ -2,15 +2,15 @@
 #![tactic(auto)]
 
 mod bytes;
+mod doubled;
 mod packed;
 mod residue;
 mod round;
-mod row;
 mod transfer;
 mod vector;
 
+pub use doubled::Doubled;
 pub use packed::Packed;
 pub use residue::Residue;
-pub use row::Row;
-pub use transfer::{Lane, Places};
+pub use transfer::{Places, PositionIndex};
 pub use vector::Words;

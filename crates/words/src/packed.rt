@@ -1,9 +1,9 @@
 // The packed engine: bit i of the state is bit i of the words.
-ghost use Rattle.words.specs.Packing.{cells};
-ghost use Rattle.words.specs.WordLaws.{cells-state};
+ghost use Rattle.words.specs.Packing.{state_of_words};
+ghost use Rattle.words.specs.StateLaw.{words-state};
 
 use crate::residue::Residue;
-use crate::transfer::{Lane, Places};
+use crate::transfer::{Places, PositionIndex};
 use crate::vector::Words;
 use duplex::{Engine, positions};
 
@@ -13,9 +13,9 @@ struct Unmoved;
 impl Places for Unmoved {
     ghost factor = { λ _. 1 };
 
-    fn place(&self, lane: Lane) -> Residue {
+    fn place(&self, index: PositionIndex) -> Residue {
         Residue {
-            value: positions()[lane.number],
+            value: positions()[index.number],
         }
     }
 }
@@ -26,9 +26,9 @@ pub struct Packed {
 }
 
 impl Engine for Packed {
-    ghost bits = { λ e. cells e.words.array };
+    ghost bits = { λ e. state_of_words e.words.array };
 
-    ghost means = { λ e. cells-state e.words.array };
+    ghost means = { λ e. words-state e.words.array };
 
     fn new() -> Packed {
         Packed {
@@ -39,7 +39,7 @@ impl Engine for Packed {
     fn step(&mut self, block: u64) {
         let mut words = self.words.round_by(Residue { value: 1 }).shuffle();
         words.inject_by(block, &Unmoved);
-        *self = Packed { words };
+        self.words = words;
     }
 
     fn read(&self) -> u32 {

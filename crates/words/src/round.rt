@@ -1,10 +1,11 @@
 // The round on packed bits, with every distance times c.
 ghost use Rattle.std.specs.Prelude.{◌≡◌, ℕ, ◌+◌, ◌*◌, ◌%◌, ◌<◌};
 ghost use Rattle.duplex.specs.State.{at, bit, pi};
-ghost use Rattle.words.specs.Packing.{cells, stretch, mixed, chi_rule, theta_rule, round_by};
+ghost use Rattle.words.specs.Packing.{state_of_words, stretch, mixed, round_by};
+ghost use Rattle.duplex.specs.State.{chi_rule, theta_rule};
 
+use crate::doubled::Doubled;
 use crate::residue::Residue;
-use crate::row::Row;
 use crate::vector::Words;
 
 // An operation on three words that acts on each place alone, by a rule of bits.
@@ -40,11 +41,11 @@ impl Mix for Theta {
 impl Words {
     // The words mixed with themselves rotated by d and by e.
     fn mix<M: Mix>(&self, d: Residue, e: Residue) -> Words
-        ensures { cells result.array ≡ mixed M.Mix.rule d.value e.value (cells self.now.array) }
+        ensures { state_of_words result.array ≡ mixed M.Mix.rule d.value e.value (state_of_words self.now.array) }
     {
-        let row = Row::new(self);
-        let x = row.rotate(d).array;
-        let y = row.rotate(e).array;
+        let doubled = Doubled::new(self);
+        let x = doubled.rotate(d).array;
+        let y = doubled.rotate(e).array;
         let w = self.array;
         // `array::from_fn` was tried, and the proof did not close: of a bound's call inside a closure it gets too little.
         let mut array = [0u32; 9];
@@ -56,7 +57,7 @@ impl Words {
 
     // chi, iota and theta: distances c and 2 c, and then 3 c and 8 c.
     pub fn round_by(&self, c: Residue) -> Words
-        ensures { cells result.array ≡ round_by c.value (cells self.now.array) }
+        ensures { state_of_words result.array ≡ round_by c.value (state_of_words self.now.array) }
     {
         let mut words = self.mix::<Chi>(c, c.times(Residue { value: 2 }));
         words.add_bit(Residue { value: 0 }, 1);
@@ -65,14 +66,14 @@ impl Words {
 
     // pi: bit i becomes bit 12 i.
     pub fn shuffle(&self) -> Words
-        ensures { cells result.array ≡ pi (cells self.now.array) }
+        ensures { state_of_words result.array ≡ pi (state_of_words self.now.array) }
     {
         self.stretch_by(Residue { value: 12 })
     }
 
     // Bit i becomes bit c i.
     pub fn stretch_by(&self, c: Residue) -> Words
-        ensures { cells result.array ≡ stretch c.value (cells self.now.array) }
+        ensures { state_of_words result.array ≡ stretch c.value (state_of_words self.now.array) }
     {
         let mut array = [0u32; 9];
         let mut from = Residue { value: 0 };
@@ -87,7 +88,7 @@ impl Words {
 
     // A word of 32 bits, the first from a place and each next from c further on; and the place after the last.
     fn gather(&self, start: Residue, c: Residue) -> (u32, Residue)
-        ensures bits { (j : ℕ) → j < 32 → bit result.0 j ≡ at (cells self.now.array) (start.value + c.value * j) }
+        ensures bits { (j : ℕ) → j < 32 → bit result.0 j ≡ at (state_of_words self.now.array) (start.value + c.value * j) }
         ensures next { result.1.value ≡ (start.value + c.value * 32) % 257 }
     {
         let mut word = 0u32;

@@ -1,13 +1,14 @@
 // A block goes in and a word comes out, at the places where the 33 positions stand.
 ghost use Rattle.std.specs.Prelude.{◌≡◌, ℕ, ◌<◌};
-ghost use Rattle.words.specs.Packing.{cells, place_by, inject_by, reading_by};
+ghost use Rattle.duplex.specs.State.{reading};
+ghost use Rattle.words.specs.Packing.{state_of_words, stretch, place_by, inject_by};
 
 use crate::residue::Residue;
 use crate::vector::Words;
 
-// The number of a position, and of the block's bit that is added there.
+// Which of the 33 positions; the block's bit of this number is added there.
 #[derive(Clone, Copy)]
-pub struct Lane {
+pub struct PositionIndex {
     pub number: usize,
     ghost low: { number < 33 },
 }
@@ -16,33 +17,33 @@ pub struct Lane {
 pub trait Places {
     ghost factor: { Self → ℕ };
 
-    fn place(&self, lane: Lane) -> Residue
-        ensures value { result.value ≡ place_by (factor self.now) lane.number }
+    fn place(&self, index: PositionIndex) -> Residue
+        ensures value { result.value ≡ place_by (factor self.now) index.number }
         ensures nonzero { 0 < result.value };
 }
 
 impl Words {
     // Adds bit j of the block at the place of position j, for the lowest 33 bits. It stops past the highest bit that is set, which in a padded block is the 1 after its bytes: how many turns there are depends on the block's length alone.
     pub fn inject_by<P: Places>(&mut self, block: u64, places: &P)
-        ensures { cells self.new.array ≡ inject_by (P.Places.factor places.now) (cells self.old.array) block }
+        ensures { state_of_words self.new.array ≡ inject_by (P.Places.factor places.now) (state_of_words self.old.array) block }
     {
         for j in 0..33 {
             let rest = block >> j;
             if rest == 0 {
                 return;
             }
-            let place = places.place(Lane { number: j });
+            let place = places.place(PositionIndex { number: j });
             self.add_bit(place, (rest & 1) as u32);
         }
     }
 
     // Bit j is the sum of the bits at the place of position j and opposite to it. The highest comes first.
     pub fn read_by<P: Places>(&self, places: &P) -> u32
-        ensures { result ≡ reading_by (P.Places.factor places.now) (cells self.now.array) }
+        ensures { result ≡ reading (stretch (P.Places.factor places.now) (state_of_words self.now.array)) }
     {
         let mut out = 0u32;
         for j in (0..32).rev() {
-            let place = places.place(Lane { number: j });
+            let place = places.place(PositionIndex { number: j });
             let mirror = Residue {
                 value: 257 - place.value,
             };

@@ -1,6 +1,8 @@
--- Zeros are a state.
-use Rattle.duplex.proofs.StateLaws.{zeros-state}
+-- Every cell of the new state is tested.
+use Rattle.std.proofs.Common.{refl, arith}
+use Rattle.duplex.specs.State.{zeros}
+use Rattle.duplex.proofs.Tables.{below_at}
 use Rattle.plain.proofs.PlainEngine.new.Goals as goal
 
 pub invariant_of-result : goal.invariant_of-result
-invariant_of-result c = record { width = zeros-state.width; binary = zeros-state.bits }
+invariant_of-result c = record { width = refl; binary = below_at 2 zeros zeros (omega arith) refl refl }

@@ -11,7 +11,7 @@ stepped s t u x p q = q ∙ ap (λ t. inject t x) p
 
 kept : (e : Plain) (t u : List ℕ) (x : ℕ) → t ≡ round e.cells → u ≡ inject t x → IsState u
 kept e t u x p q =
-    subst IsState (sym (stepped e.cells t u x p q)) (step-state e.cells x (record { width = e.width; bits = e.binary }))
+    subst IsState (sym (stepped e.cells t u x p q)) (step-state e.cells x (record { width = e.width; binary = e.binary }))
 
 pub invariant_of-self : goal.invariant_of-self
 invariant_of-self c =

@@ -1,9 +1,8 @@
--- No shuffle is owed.
-use Rattle.std.proofs.Common.{◌∙◌}
-use Rattle.words.specs.Packing.{cells}
-use Rattle.words.specs.WordLaws.{length-cells}
-use Rattle.postponed.specs.StretchLaws.{stretch_one}
+-- Zeros mean zeros, whatever is owed.
+use Rattle.std.proofs.Common.{ap, ◌∙◌}
+use Rattle.words.specs.Packing.{stretch}
+use Rattle.words.proofs.StretchLaws.{stretch-zeros}
 use Rattle.postponed.proofs.engine.PostponedEngine.new.Goals as goal
 
-pub returns : goal.returns
-returns c = let w = c.new.result.array in stretch_one (cells w) (length-cells w) ∙ c.new.ensures
+pub returns-clause-means : goal.returns-clause-means
+returns-clause-means c = ap (stretch _) c.new.ensures ∙ stretch-zeros _

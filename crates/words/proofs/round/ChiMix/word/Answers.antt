@@ -2,8 +2,8 @@
 use Rattle.std.proofs.Common.{◌≡◌, ℕ, ap, ◌∙◌, arith}
 use lib.Bits.{bit_and, bit_xor}
 use Rattle.duplex.specs.State.{bit}
-use Rattle.words.specs.Packing.{chi_rule}
-use Rattle.words.specs.BitLaws.{bit-bit_xor, bit-bit_and, chi_form}
+use Rattle.duplex.specs.State.{chi_rule}
+use Rattle.words.proofs.BitLaws.{bit-bit_xor, bit-bit_and, chi_form}
 use Rattle.words.proofs.round.ChiMix.word.Goals as goal
 
 placewise : (a x y j : ℕ) → bit (bit_xor (bit_xor a y) (bit_and x y)) j ≡ chi_rule (bit a j) (bit x j) (bit y j)

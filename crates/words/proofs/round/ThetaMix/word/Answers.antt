@@ -2,7 +2,7 @@
 use Rattle.std.proofs.Common.{ap, ◌∙◌}
 use lib.Bits.{bit_xor, xor_lt}
 use Rattle.duplex.specs.State.{bit}
-use Rattle.words.specs.BitLaws.{bit-bit_xor}
+use Rattle.words.proofs.BitLaws.{bit-bit_xor}
 use Rattle.words.proofs.round.ThetaMix.word.Goals as goal
 
 pub returns : goal.returns

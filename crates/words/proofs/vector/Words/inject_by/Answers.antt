@@ -5,7 +5,7 @@ use Rattle.std.specs.List.{range_with_len}
 use Rattle.std.proofs.lemmas.Nat.{and_mask}
 use Rattle.duplex.specs.State.{bit, add_at, add_bits}
 use Rattle.duplex.proofs.StepLaws.{add_bits_more, add_bits_none}
-use Rattle.words.specs.Packing.{cells, place_by, inject_by}
+use Rattle.words.specs.Packing.{state_of_words, place_by, inject_by}
 use Rattle.words.proofs.vector.Words.inject_by.Goals as goal
 
 pub loop-j-init : goal.loop-j-init
@@ -14,7 +14,7 @@ loop-j-init g c = refl
 
 pub loop-j-preserved : goal.loop-j-preserved
 loop-j-preserved g c =
-    let s = cells c.loop-j.self.array in
+    let s = state_of_words c.loop-j.self.array in
     let p = place_by (g.P.Places.factor c.args.places.now) in
     let x = c.args.block in
     let j = c.loop-j.j in
@@ -27,4 +27,4 @@ pub returns-then-rest-eq0 : goal.returns-then-rest-eq0
 returns-then-rest-eq0 g c =
     let p = place_by (g.P.Places.factor c.args.places.now) in
     let j = c.loop-j.j in
-    sym (add_bits_none p c.args.block (cells c.loop-j.self.array) (33 - j) j c.if-rest-eq0.true) ∙ c.loop-j.invariant
+    sym (add_bits_none p c.args.block (state_of_words c.loop-j.self.array) (33 - j) j c.if-rest-eq0.true) ∙ c.loop-j.invariant

@@ -1,7 +1,7 @@
 -- The words are mixed place by place.
 use Rattle.std.proofs.Common.{ap, ◌∙◌, arith, length-set}
 use Rattle.words.specs.Packing.{word_bit, rotated}
-use Rattle.words.specs.WordLaws.{mixed_word, mixed_spare, cells-mixed}
+use Rattle.words.proofs.WordLaws.{mixed_word, mixed_spare, words-mixed}
 use Rattle.words.proofs.RowLaws.{words_more}
 use Rattle.words.proofs.vector.Words.mix.Goals as goal
 
@@ -24,5 +24,5 @@ pub returns : goal.returns
 returns g c =
     let d = c.args.d.value in
     let e = c.args.e.value in
-    cells-mixed g.M.Mix.rule c.args.self.now.array _ _ _ d e (c.rotate.ensures ∙ ap (rotated d) c.new-row.ensures)
-    (c.rotate-2.ensures ∙ ap (rotated e) c.new-row.ensures) (λ m h. c.loop-k.invariant.1 m (omega arith))
+    words-mixed g.M.Mix.rule c.args.self.now.array _ _ _ d e (c.rotate.ensures ∙ ap (rotated d) c.new-doubled.ensures.bits)
+    (c.rotate-2.ensures ∙ ap (rotated e) c.new-doubled.ensures.bits) (λ m h. c.loop-k.invariant.1 m (omega arith))

@@ -2,15 +2,15 @@
 use Rattle.std.proofs.Common.{◌≡◌, ℕ, ◌*◌, ◌%◌, ◌<◌, List, get_or, sym, ap, ◌∙◌, subst, arith, length-set}
 use Rattle.std.proofs.lemmas.List.{get_or-set_same}
 use Rattle.duplex.specs.State.{at}
-use Rattle.words.specs.Packing.{cells}
+use Rattle.words.specs.Packing.{state_of_words}
 use Rattle.words.proofs.RowLaws.{words_more}
 use Rattle.words.proofs.StretchLaws.{place-next, place_within, all_stretched}
-use Rattle.words.specs.WordLaws.{cells-state}
+use Rattle.words.specs.StateLaw.{words-state}
 use Rattle.words.proofs.vector.Words.stretch_by.Goals as goal
 
 pub loop-k-preserved : goal.loop-k-preserved
 loop-k-preserved c =
-    let s = cells c.args.self.now.array in
+    let s = state_of_words c.args.self.now.array in
     let d = c.args.c.value in
     let k = c.loop-k.k in
     let from = c.loop-k.from.0 in
@@ -21,8 +21,8 @@ loop-k-preserved c =
           (λ m e. c.gather-word.ensures.bits (m % 32) (omega arith) ∙ place_within d k from is s m e),
     )
 
-bit_fits : (ws : List ℕ) (b p : ℕ) → b ≡ get_or (cells ws) p 0 → b < 2
-bit_fits ws b p e = subst (λ n. n < 2) (sym e) ((cells-state ws).bits p)
+bit_fits : (ws : List ℕ) (b p : ℕ) → b ≡ get_or (state_of_words ws) p 0 → b < 2
+bit_fits ws b p e = subst (λ n. n < 2) (sym e) ((words-state ws).binary p)
 
 pub invariant_of-result : goal.invariant_of-result
 invariant_of-result c =
@@ -31,7 +31,7 @@ invariant_of-result c =
 
 pub returns : goal.returns
 returns c =
-    let s = cells c.args.self.now.array in
+    let s = state_of_words c.args.self.now.array in
     let e : c.loop-k.k ≡ 8 = omega arith in
     all_stretched c.args.c.value s c.loop-k.array _ c.loop-k.invariant.0 (λ m h. c.loop-k.invariant.2 m (omega arith))
     (c.bit.ensures ∙ ap (λ n. get_or s n 0) (c.loop-k.invariant.1 ∙ ap (λ n. c.args.c.value * (32 * n) % 257) e)) (bit_fits c.args.self.now.array _ _ c.bit.ensures)

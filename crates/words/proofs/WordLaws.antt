@@ -5,29 +5,26 @@ use Rattle.std.specs.Int.Bits.{bit_xor, xor_zero_r}
 use Rattle.std.proofs.lemmas.Nat.{xor_lt}
 use Rattle.std.proofs.lemmas.List.{get_or-set_same, get_or-set_other, get_or-replicate, length-replicate}
 use Rattle.std.proofs.lemmas.Bool.{cases_eq}
-use Rattle.duplex.specs.State.{IsState, bit, at, zeros, add_at}
-use Rattle.duplex.proofs.StateLaws.{at_state, state_ext, getD_state, state_all, state_is}
-use Rattle.words.specs.Packing.{word_bit, cells, rotated, mixed}
-use Rattle.words.specs.BitLaws.{bit-bit_xor, bit_zero, single_here, single_other}
-use Rattle.words.specs.ModLaws.{mod_cong}
+use Rattle.duplex.specs.State.{bit, at, zeros, add_at}
+use Rattle.duplex.proofs.StateLaws.{at_state, state_ext, getD_state, state_all}
+use Rattle.words.specs.Packing.{word_bit, state_of_words, rotated, mixed}
+use Rattle.words.specs.StateLaw.{words-state}
+use Rattle.words.proofs.BitLaws.{bit-bit_xor, bit_zero, single_here, single_other}
+use Rattle.words.proofs.ModLaws.{mod_cong}
 
-pub cells-state : (ws : List ℕ) → IsState (cells ws)
-unfolding cells
-cells-state ws = state_is (word_bit ws) (λ i h. omega arith)
+pub length-words : (ws : List ℕ) → length (state_of_words ws) ≡ 257
+length-words ws = (words-state ws).width
 
-pub length-cells : (ws : List ℕ) → length (cells ws) ≡ 257
-length-cells ws = (cells-state ws).width
-
-pub getD_cells : (ws : List ℕ) (i : ℕ) → i < 257 → slice_index (cells ws) i ≡ word_bit ws i
-unfolding cells
-getD_cells ws i h = getD_state (word_bit ws) i h
+pub getD_words : (ws : List ℕ) (i : ℕ) → i < 257 → slice_index (state_of_words ws) i ≡ word_bit ws i
+unfolding state_of_words
+getD_words ws i h = getD_state (word_bit ws) i h
 
 pub at_rotated : (d : ℕ) (s : List ℕ) (i : ℕ) → at (rotated d s) i ≡ at s (i + d)
 unfolding rotated
 at_rotated d s i = at_state (λ i. at s (i + d)) i ∙ ap (λ n. slice_index s n) (omega arith)
 
 -- a bit added at place p
-abbrev pub added : List ℕ → ℕ → ℕ → List ℕ
+abbrev added : List ℕ → ℕ → ℕ → List ℕ
 added ws p b = slice_set ws (p / 32) (bit_xor (slice_index ws (p / 32)) (b * 2 ^ (p % 32) % 2 ^ 32))
 
 added_here : (ws : List ℕ) (p b : ℕ) → p / 32 < length ws → b < 2 → word_bit (added ws p b) p ≡ bit_xor (word_bit ws p) b
@@ -47,15 +44,15 @@ added_other ws p b i l hb ne =
     (λ far. ap (λ n. bit n (i % 32)) (get_or-set_other ws (p / 32) (i / 32) _ 0 far))
     (cases_eq (i / 32) (p / 32))
 
-pub cells_added : (ws : List ℕ) (p b : ℕ) → p < 257 → length ws ≡ 9 → b < 2 → cells (added ws p b) ≡ add_at (cells ws) p b
-unfolding cells
-cells_added ws p b hp w hb =
-    let v = bit_xor (slice_index (cells ws) p) b in
-    sym (state_all (slice_set (cells ws) p v) (word_bit (added ws p b)) (length-set (cells ws) p v ∙ length-cells ws)
+pub words_added : (ws : List ℕ) (p b : ℕ) → p < 257 → length ws ≡ 9 → b < 2 → state_of_words (added ws p b) ≡ add_at (state_of_words ws) p b
+unfolding state_of_words
+words_added ws p b hp w hb =
+    let v = bit_xor (slice_index (state_of_words ws) p) b in
+    sym (state_all (slice_set (state_of_words ws) p v) (word_bit (added ws p b)) (length-set (state_of_words ws) p v ∙ length-words ws)
     (λ i h. ⊎_elim
-    (λ e. ap (λ n. slice_index (slice_set (cells ws) p v) n) e ∙ (get_or-set_same (cells ws) p v 0 (omega (arith, length-cells ws))
-    ∙ (ap (λ n. bit_xor n b) (getD_cells ws p hp) ∙ (sym (added_here ws p b (omega arith) hb) ∙ ap (word_bit (added ws p b)) (sym e)))))
-    (λ ne. get_or-set_other (cells ws) p i v 0 ne ∙ (getD_cells ws i h ∙ sym (added_other ws p b i (omega arith) hb ne)))
+    (λ e. ap (λ n. slice_index (slice_set (state_of_words ws) p v) n) e ∙ (get_or-set_same (state_of_words ws) p v 0 (omega (arith, length-words ws))
+    ∙ (ap (λ n. bit_xor n b) (getD_words ws p hp) ∙ (sym (added_here ws p b (omega arith) hb) ∙ ap (word_bit (added ws p b)) (sym e)))))
+    (λ ne. get_or-set_other (state_of_words ws) p i v 0 ne ∙ (getD_words ws i h ∙ sym (added_other ws p b i (omega arith) hb ne)))
     (cases_eq i p)))
 
 pub spare_added : (ws : List ℕ) (p b : ℕ) → p < 257 → length ws ≡ 9 → b < 2 → slice_index ws 8 < 2 → slice_index (added ws p b) 8 < 2
@@ -86,15 +83,15 @@ module _ (w x y t : List ℕ) (k v : ℕ) where
       subst (λ n. n < 2) (sym (ap (λ n. slice_index (slice_set t k v) n) e ∙ get_or-set_same t k v 0 (omega arith))) (narrow (low w sw) (low x sx) (low y sy))
 
 -- words made place by place by a rule, of words and of them rotated by d and by e
-pub cells-mixed : (rule : ℕ → ℕ → ℕ → ℕ) (w x y t : List ℕ) (d e : ℕ) → cells x ≡ rotated d (cells w) → cells y ≡ rotated e (cells w)
-    → ((m : ℕ) → m < 257 → word_bit t m ≡ rule (word_bit w m) (word_bit x m) (word_bit y m)) → cells t ≡ mixed rule d e (cells w)
-unfolding cells mixed
-cells-mixed rule w x y t d e hx hy made = state_ext _ _ (λ i h.
-    let here : (z : List ℕ) → word_bit z i ≡ at (cells z) i = λ z. sym (getD_cells z i h) ∙ ap (λ n. slice_index (cells z) n) (omega arith) in
-    let there : (z : List ℕ) (f : ℕ) → cells z ≡ rotated f (cells w) → word_bit z i ≡ at (cells w) (i + f) =
-    λ z f q. here z ∙ (ap (λ s. at s i) q ∙ at_rotated f (cells w) i) in
+pub words-mixed : (rule : ℕ → ℕ → ℕ → ℕ) (w x y t : List ℕ) (d e : ℕ) → state_of_words x ≡ rotated d (state_of_words w) → state_of_words y ≡ rotated e (state_of_words w)
+    → ((m : ℕ) → m < 257 → word_bit t m ≡ rule (word_bit w m) (word_bit x m) (word_bit y m)) → state_of_words t ≡ mixed rule d e (state_of_words w)
+unfolding state_of_words mixed
+words-mixed rule w x y t d e hx hy made = state_ext _ _ (λ i h.
+    let here : (z : List ℕ) → word_bit z i ≡ at (state_of_words z) i = λ z. sym (getD_words z i h) ∙ ap (λ n. slice_index (state_of_words z) n) (omega arith) in
+    let there : (z : List ℕ) (f : ℕ) → state_of_words z ≡ rotated f (state_of_words w) → word_bit z i ≡ at (state_of_words w) (i + f) =
+    λ z f q. here z ∙ (ap (λ s. at s i) q ∙ at_rotated f (state_of_words w) i) in
     made i h ∙ (ap (λ n. rule n (word_bit x i) (word_bit y i)) (here w)
-    ∙ (ap (λ n. rule (at (cells w) i) n (word_bit y i)) (there x d hx) ∙ ap (rule (at (cells w) i) (at (cells w) (i + d))) (there y e hy))))
+    ∙ (ap (λ n. rule (at (state_of_words w) i) n (word_bit y i)) (there x d hx) ∙ ap (rule (at (state_of_words w) i) (at (state_of_words w) (i + d))) (there y e hy))))
 
 -- a distance counts modulo 257
 pub mixed-cut : (rule : ℕ → ℕ → ℕ → ℕ) (d d' e e' : ℕ) (s : List ℕ) → d ≡ d' % 257 → e ≡ e' % 257 → mixed rule d e s ≡ mixed rule d' e' s
@@ -106,9 +103,9 @@ mixed-cut rule d d' e e' s p q = state_ext _ _ (λ i h.
     far i f g q = ap (λ n. slice_index s n) (ap (λ n. (i + n) % 257) q ∙ sym (mod_cong (i + g) (i + g % 257) (g / 257) (omega arith)))
 
 -- words that are zero hold zeros
-pub cells-zeros : cells (replicate 9 0) ≡ zeros
-unfolding cells
-cells-zeros =
+pub words-zeros : state_of_words (replicate 9 0) ≡ zeros
+unfolding state_of_words
+words-zeros =
     sym (state_all zeros (word_bit (replicate 9 0)) (length-replicate {A = ℕ} 257 0)
     (λ i h. get_or-replicate {A = ℕ} 257 i 0 0 h
     ∙ sym (ap (λ n. bit n (i % 32)) (get_or-replicate {A = ℕ} 9 (i / 32) 0 0 (omega arith)) ∙ bit_zero (i % 32))))

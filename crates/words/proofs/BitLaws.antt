@@ -1,12 +1,11 @@
 -- The bits of a number under shifts and under the operations on bits.
 use Rattle.std.specs.Prelude.{◌≡◌, ℕ, zero, suc, ◌+◌, ◌-◌, ◌*◌, ◌/◌, ◌%◌, ◌^◌, ◌<◌, ◌≤◌, ◌≢◌, refl}
-use Rattle.std.proofs.Common.{sym, ap, subst, ◌∙◌, ⊎_elim, mul_assoc, mul_comm, add-one, arith, pow_mono}
-use Rattle.std.proofs.Math.Nat.{div-eq_of_lt}
+use Rattle.std.proofs.Common.{sym, ap, subst, ◌∙◌, ⊎_elim, mul_assoc, mul_comm, arith, pow_mono}
 use Rattle.std.specs.Int.Bits.{bit_and, bit_or, bit_xor, shifted_even, or_zero_l, or_zero_r}
-use Rattle.std.proofs.Math.Pow.{mod-mod-pow}
 use Rattle.std.proofs.lemmas.Bool.{cases_lt}
-use Rattle.std.proofs.lemmas.Nat.{pow_pos, pow-add, shr-shr, shl-shr, field_of, xor_shr, xor_mod, and_shr, and_mod, or_shr, or_mod}
+use Rattle.std.proofs.lemmas.Nat.{pow_pos, pow-add, shl-shr, xor_shr, xor_mod, and_shr, and_mod, or_shr, or_mod}
 use Rattle.duplex.specs.State.{bit}
+use Rattle.duplex.proofs.BitLaws.{bit_past, bit_shr, bit_cut}
 
 pub bit-bit_xor : (x y k : ℕ) → bit (bit_xor x y) k ≡ bit_xor (bit x k) (bit y k)
 bit-bit_xor x y k = ap (λ n. n % 2) (xor_shr x y k) ∙ xor_mod (x / 2 ^ k) (y / 2 ^ k) 1
@@ -24,27 +23,8 @@ or_first x y k v p q = bit-bit_or x y k ∙ (ap (bit_or (bit x k)) q ∙ (or_zer
 pub or_second : (x y k v : ℕ) → bit x k ≡ 0 → bit y k ≡ v → bit (bit_or x y) k ≡ v
 or_second x y k v p q = bit-bit_or x y k ∙ (ap (λ n. bit_or n (bit y k)) p ∙ (or_zero_l (bit y k) ∙ q))
 
--- past the end
-pub bit_past : (x k : ℕ) → x < 2 ^ k → bit x k ≡ 0
-bit_past x k h = ap (λ n. n % 2) (div-eq_of_lt h)
-
 pub bit_zero : (k : ℕ) → bit 0 k ≡ 0
 bit_zero k = bit_past 0 k (pow_pos k)
-
--- a shift to the right
-pub bit_shr : (x j k : ℕ) → bit (x / 2 ^ j) k ≡ bit x (j + k)
-bit_shr x j k = ap (λ n. n % 2) (shr-shr x j k)
-
--- a number cut at w bits
-pub bit_cut : (x w k : ℕ) → k < w → bit (x % 2 ^ w) k ≡ bit x k
-bit_cut x w k h =
-    let e : suc (w - suc k) + k ≡ w = omega arith in
-    subst (λ m. bit (x % 2 ^ m) k ≡ bit x k) e (low (w - suc k))
-  where
-    low : (j : ℕ) → bit (x % 2 ^ (suc j + k)) k ≡ bit x k
-    low j =
-        let two : x / 2 ^ k % 2 ^ suc j % 2 ≡ x / 2 ^ k % 2 = rw (sym (add-one j)) (mod-mod-pow (x / 2 ^ k) j 1) in
-        ap (λ n. n % 2) (field_of x (suc j) k) ∙ two
 
 -- a shift to the left: place j + k of the result is place k, and the places below j are 0
 bit_shl : (x j k : ℕ) → bit (x * 2 ^ j) (j + k) ≡ bit x k
@@ -80,7 +60,7 @@ single_other b q w j h l ne =
     (cases_lt j q)
 
 -- a word with one bit more, at a place from which on it is zero
-abbrev pub with_bit : ℕ → ℕ → ℕ → ℕ
+abbrev with_bit : ℕ → ℕ → ℕ → ℕ
 with_bit word b j = bit_or word (b * 2 ^ j % 2 ^ 32)
 
 module _ (word b j : ℕ) (hb : b < 2) (hj : j < 32) where

@@ -1,35 +1,16 @@
 -- The steps with every distance and position times c, on the state that is stretched by c.
-use Rattle.std.specs.Prelude.{◌≡◌, ℕ, zero, suc, ◌+◌, ◌-◌, ◌*◌, ◌%◌, ◌^◌, ◌<◌, cond, List, [], ◌∷◌, length, set, ◌==◌, bit_xor, nat_eq, slice_index, slice_set, refl}
+use Rattle.std.specs.Prelude.{◌≡◌, ℕ, zero, suc, ◌+◌, ◌*◌, ◌%◌, ◌^◌, ◌<◌, cond, List, [], ◌∷◌, length, set, ◌==◌, bit_xor, nat_eq, slice_index, slice_set, refl}
 use Rattle.std.proofs.Common.{sym, ap, ◌∙◌, ⊎_elim, mul_comm, mul_assoc, mul-add, arith, length-set}
 use Rattle.std.proofs.Math.Nat.{mul-mul-mul_comm, pow-succ'}
 use Rattle.std.specs.List.{range_with_len}
 use Rattle.std.proofs.lemmas.List.{get_or-set_same, get_or-set_other}
 use Rattle.std.proofs.lemmas.Bool.{cases_Bool, cases_eq, eqb-true, eqb-false, eq-eqb, ne_eqb}
-use Rattle.duplex.specs.State.{IsState, at, chi, theta, iota, pi, round, bit, add_at, add_bits, position, inject, step, number, read_bit, reading}
-use Rattle.duplex.proofs.StateLaws.{at_state, state_ext, getD_state, length-state, state_all, state_is}
-use Rattle.words.specs.Packing.{stretch, mixed, chi_rule, chi_by, theta_rule, theta_by, round_by, place_by, inject_by, read_bit_by, reading_by}
-use Rattle.words.specs.ModLaws.{cut_left, cut_right}
-use Rattle.words.proofs.FactorLaws.{add_bits_ext, map_ext}
-
--- at takes its index modulo 257
-at_mod : (s : List ℕ) (i j : ℕ) → i % 257 ≡ j % 257 → at s i ≡ at s j
-at_mod s i j e = ap (λ n. slice_index s n) e
-
-at_stretch : (c : ℕ) (s : List ℕ) (i : ℕ) → at (stretch c s) i ≡ at s (c * i)
-unfolding stretch
-at_stretch c s i = at_state (λ i. at s (c * i)) i ∙ at_mod s (c * (i % 257)) (c * i) (cut_right c i)
-
-pub stretch-cut : (c : ℕ) (s : List ℕ) → stretch (c % 257) s ≡ stretch c s
-unfolding stretch
-stretch-cut c s = state_ext _ _ (λ i h. at_mod s (c % 257 * i) (c * i) (cut_left c i))
-
-pub stretch-state : (c : ℕ) (s : List ℕ) → IsState s → IsState (stretch c s)
-unfolding stretch
-stretch-state c s w = state_is (λ i. at s (c * i)) (λ i h. w.bits (c * i % 257))
-
-pub stretch_one : (s : List ℕ) → length s ≡ 257 → stretch 1 s ≡ s
-unfolding stretch
-stretch_one s w = sym (state_all s (λ i. at s (1 * i)) w (λ i h. ap (λ n. slice_index s n) (omega arith)))
+use Rattle.duplex.specs.State.{at, chi_rule, theta_rule, chi, theta, iota, pi, round, bit, add_at, add_bits, position, inject, step}
+use Rattle.duplex.proofs.StateLaws.{at_state, state_ext, getD_state, length-state, state_all}
+use Rattle.words.specs.Packing.{stretch, mixed, chi_by, theta_by, round_by, place_by, inject_by}
+use Rattle.words.proofs.ModLaws.{cut_left, cut_right}
+use Rattle.words.proofs.FactorLaws.{add_bits_ext}
+use Rattle.words.proofs.StretchLaws.{at_mod, at_stretch, stretch-cut}
 
 -- bit i + d of the stretched state
 at_shift : (c : ℕ) (s : List ℕ) (i d e : ℕ) → c * d ≡ e → at (stretch c s) (i + d) ≡ at s (c * i % 257 + e)
@@ -140,13 +121,6 @@ step-stretch c s x iv =
 inject-cut : (c : ℕ) (s : List ℕ) (x : ℕ) → inject_by (c % 257) s x ≡ inject_by c s x
 unfolding inject_by
 inject-cut c s x = add_bits_ext (place_by (c % 257)) (place_by c) (λ j. cut_left c (position j)) x (range_with_len 0 33) s
-
-pub reading-stretch : (c : ℕ) (s : List ℕ) → reading (stretch c s) ≡ reading_by c s
-unfolding reading reading_by
-reading-stretch c s =
-    ap number (map_ext (read_bit (stretch c s)) (read_bit_by c s)
-    (λ j. ap (λ n. bit_xor n (at (stretch c s) (257 - position j))) (at_stretch c s (position j)) ∙ ap (bit_xor (at s (c * position j))) (at_stretch c s (257 - position j)))
-    (range_with_len 0 32))
 
 -- a step at a factor that is c modulo 257, the next factor being 12 times it modulo 257
 pub step_stretched : (k c k' : ℕ) (s : List ℕ) (x : ℕ) → Invertible k → c ≡ k % 257 → 12 * k % 257 ≡ k' % 257

@@ -2,7 +2,7 @@
 use Rattle.std.proofs.Common.{◌≡◌, ◌+◌, ◌*◌, ◌/◌, ◌%◌, ◌^◌, ◌<◌, get_or, ap, ◌∙◌, arith, length-set, rules}
 use Rattle.words.specs.Packing.{word_bit}
 use Rattle.words.proofs.RowLaws.{words_more, window_bit, read_from}
-use Rattle.words.proofs.row.Row.rotate.Goals as goal
+use Rattle.words.proofs.doubled.Doubled.rotate.Goals as goal
 
 pub loop-k-preserved : goal.loop-k-preserved
 loop-k-preserved c =

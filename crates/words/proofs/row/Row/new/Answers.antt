@@ -1,9 +1,0 @@
--- The words written are the nine laid twice.
-use Rattle.words.proofs.RowLaws.{laid_twice, laid_cells}
-use Rattle.words.proofs.row.Row.new.Goals as goal
-
-pub invariant_of-result : goal.invariant_of-result
-invariant_of-result c = record { width = c.loop-m.invariant.0; twice = laid_twice _ _ _ c.loop-m-test.false c.args.w.now.spare c.loop-m.invariant.1 }
-
-pub returns : goal.returns
-returns c = laid_cells _ _ _ c.loop-m-test.false c.args.w.now.spare c.loop-m.invariant.1
