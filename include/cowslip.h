@@ -169,15 +169,16 @@ uint32_t cowslip_session_seal(uint8_t *session, size_t session_len,
 /* Opens a ciphertext with its associated data and its tag.
  *
  * ACCEPTED  The first ciphertext_len bytes of `out` are the text, those after them stay; the session stands where
- *           sealing this text would have left it, the seven high bits of its byte 33 being 0. What sealing a text where
- *           the session stands has written is always accepted, and nothing else is.
+ *           sealing this text would have left it, the seven high bits of its byte 33 being 0. A ciphertext and a tag
+ *           are accepted just where sealing some text, with this associated data and where the session stands, would
+ *           have given them.
  * REFUSALS  30: `session` (place 0) has not 34 bytes, or `tag` (3) not 16. All stays.
  *           31: `session` holds no session. All stays.
  *           5: `out` is shorter than the ciphertext. All stays. Place: out_len.
  *           7: the tag differs. Place: ciphertext_len. The first ciphertext_len bytes of `out` are 0, those after them
  *           stay, and the session has moved on by the ciphertext and associated data that were handed over, the seven
- *           high bits of its byte 33 being 0. It stands where sealing left the other one if these were as sealed and
- *           the tag alone was not; otherwise do not count on what was sealed next to open.
+ *           high bits of its byte 33 being 0. It stands where the sealing one does if these were as sealed and the tag
+ *           alone was not; otherwise what was sealed next may not open.
  * TOLD      the ciphertext's length.
  */
 uint32_t cowslip_session_open(uint8_t *session, size_t session_len,
