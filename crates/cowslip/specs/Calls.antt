@@ -37,7 +37,7 @@ numbers_told (Err e) old = slice_set old 0 (told e).place
 abbrev pub Reports : Outcome → ℕ → List ℕ → List ℕ → Type 0
 Reports outcome returned old new = (returned ≡ status outcome) × (new ≡ numbers_told outcome old)
 
--- The outcome of a call by what it finds in its memory.
+-- the outcome of a call, by what it finds in its memory
 abbrev pub outcome_with : {A : Type 0} → Result A CallFault → (A → Outcome) → Outcome
 outcome_with (Ok x) f = f x
 outcome_with (Err e) f = Err e
@@ -68,6 +68,7 @@ of_session = result_map_both One Session
 abbrev pub seal_outcome : List ℕ → List ℕ → ℕ → ℕ → Outcome
 seal_outcome memory text room tag_length = outcome_with (session_for memory 4 tag_length) (λ s. of_session (seal_answer text room))
 
+-- a text that is sealed moves the session on
 abbrev pub kept_sealed : List ℕ → List ℕ → List ℕ → Result ℕ SessionFault → List ℕ → List ℕ
 kept_sealed s ad text (Ok n) old = kept_session (seal_bits s ad text (Ok n))
 kept_sealed s ad text (Err e) old = old
@@ -114,6 +115,7 @@ of_writing = result_map_both (λ p. Two p.0 p.1) Link
 abbrev pub write_outcome : List ℕ → ℕ → List ℕ → ℕ → Outcome
 write_outcome memory b t room = outcome_with (end_for sender_mark memory) (λ m. of_writing (write_answer m b t room))
 
+-- a frame that is written moves the end on
 abbrev pub kept_written : Standing → Result (ℕ × ℕ) LinkFault → List ℕ → List ℕ
 kept_written after (Ok p) old = kept_end sender_mark after
 kept_written after (Err e) old = old
@@ -132,6 +134,7 @@ of_taking = result_map_both (λ k. One (kind_byte k)) Link
 abbrev pub take_outcome : List ℕ → List ℕ → ℕ → Outcome
 take_outcome memory f room = outcome_with (end_for receiver_mark memory) (λ m. of_taking (take_answer m f room))
 
+-- a frame that is taken moves the end on
 abbrev pub kept_taken : Standing → List ℕ → Result Kind LinkFault → List ℕ → List ℕ
 kept_taken m f (Ok k) old = kept_end receiver_mark (take_standing m f (Ok k))
 kept_taken m f (Err e) old = old
