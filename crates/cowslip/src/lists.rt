@@ -1,7 +1,7 @@
 // Digest and deck for C.
 ghost use Rattle.std.specs.Prelude.{◌≡◌, length};
-ghost use Rattle.digests.specs.Digests.{digested, decked};
-ghost use Rattle.digests.specs.Entries.{outside, answered, cuts};
+ghost use Rattle.digests.specs.Digests.{digest_of, deck_of};
+ghost use Rattle.digests.specs.Entries.{first_outside, answered, cuts};
 ghost use Rattle.digests.specs.declared.entries.EntryFault.TheVariants.{Digest, Deck};
 ghost use Rattle.cowslip.specs.Calls.{Reports, buffer_with, of_entries};
 
@@ -18,8 +18,8 @@ pub extern "C" fn cowslip_digest(
     out: &mut [u8],
     told: &mut [usize],
 ) -> u32
-    ensures answer { Reports (of_entries (answered Digest (outside 0 (length buffer.now) entries.now))) result told.old told.new }
-    ensures out { out.new ≡ buffer_with (answered Digest (outside 0 (length buffer.now) entries.now)) (λ u. digested (cuts buffer.now entries.now) (length out.old)) out.old }
+    ensures answer { Reports (of_entries (answered Digest (first_outside (length buffer.now) entries.now))) result told.old told.new }
+    ensures out { out.new ≡ buffer_with (answered Digest (first_outside (length buffer.now) entries.now)) (λ u. digest_of (cuts buffer.now entries.now) (length out.old)) out.old }
 {
     report(filled(digest::<Postponed>(buffer, entries, out)), told)
 }
@@ -33,8 +33,8 @@ pub extern "C" fn cowslip_deck(
     out: &mut [u8],
     told: &mut [usize],
 ) -> u32
-    ensures answer { Reports (of_entries (answered Deck (outside 0 (length buffer.now) entries.now))) result told.old told.new }
-    ensures out { out.new ≡ buffer_with (answered Deck (outside 0 (length buffer.now) entries.now)) (λ u. decked key.now (cuts buffer.now entries.now) (length out.old)) out.old }
+    ensures answer { Reports (of_entries (answered Deck (first_outside (length buffer.now) entries.now))) result told.old told.new }
+    ensures out { out.new ≡ buffer_with (answered Deck (first_outside (length buffer.now) entries.now)) (λ u. deck_of key.now (cuts buffer.now entries.now) (length out.old)) out.old }
 {
     report(filled(deck::<Postponed>(key, buffer, entries, out)), told)
 }

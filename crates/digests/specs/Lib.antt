@@ -1,3 +1,4 @@
 pub mod Entries
 pub mod Digests
 pub mod Feeding
+pub mod Figures

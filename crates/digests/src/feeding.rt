@@ -1,17 +1,17 @@
 // A digest that is fed. Bytes are absorbed as they come.
-ghost use Rattle.std.specs.Prelude.{◌≡◌, ℕ, false, ◌||◌, List, length};
+ghost use Rattle.std.specs.Prelude.{◌≡◌, false, ◌||◌, length};
 ghost use Rattle.duplex.specs.State.{zeros};
-ghost use Rattle.duplex.specs.Strings.{absorbed_unkeyed, squeezed, after_squeezing};
-ghost use Rattle.digests.specs.Feeding.{appended, ended, all_ended, finished, some_bytes};
+ghost use Rattle.duplex.specs.Strings.{appended, squeezed, after_squeezing};
+ghost use Rattle.digests.specs.Feeding.{feeding_bits, squeezing_bits, is_open, after_end, EndsString, closed, finished, some_bytes};
 
 use duplex::Engine;
-use strings::Duplex;
+use strings::{BLANKS, Duplex};
 
-// Takes strings in. `begun` says whether bytes were appended since the last end; two types would not do, since it shows only when the calls run.
+// Takes strings in. `string_open` says whether bytes were appended since the last end; two types would not do, since it shows only when the calls run.
 #[derive(Drop)]
 pub struct Feeding<E> {
     duplex: Duplex<E>,
-    begun: bool,
+    string_open: bool,
 }
 
 // Gives bytes, and takes none.
@@ -22,54 +22,54 @@ pub struct Squeezing<E> {
 
 impl<E: Engine> Feeding<E> {
     pub fn new() -> Feeding<E>
-        ensures moved { E.bits result.duplex.engine ≡ zeros }
-        ensures begun { result.begun ≡ false }
+        ensures bits { feeding_bits E.bits result ≡ zeros }
+        ensures string { is_open result ≡ false }
     {
         Feeding {
             duplex: Duplex::new(),
-            begun: false,
+            string_open: false,
         }
     }
 
     // Appends bytes to the string. No bytes change nothing.
     pub fn append(&mut self, bytes: &[u8])
-        ensures moved { E.bits self.new.duplex.engine ≡ appended (E.bits self.old.duplex.engine) bytes.now }
-        ensures begun { self.new.begun ≡ (self.old.begun || some_bytes bytes.now) }
+        ensures moved { feeding_bits E.bits self.new ≡ appended (feeding_bits E.bits self.old) bytes.now }
+        ensures string { is_open self.new ≡ (is_open self.old || some_bytes bytes.now) }
     {
         self.duplex.append_unkeyed(bytes);
         if !bytes.is_empty() {
-            self.begun = true;
+            self.string_open = true;
         }
     }
 
     // Ends the string, which is empty where nothing was appended since the last end. What was appended is then absorbed as one unkeyed string.
     pub fn end_string(&mut self)
-        ensures moved { E.bits self.new.duplex.engine ≡ ended (E.bits self.old.duplex.engine) }
-        ensures whole { (s t : List ℕ) → E.bits self.old.duplex.engine ≡ appended s t → E.bits self.new.duplex.engine ≡ absorbed_unkeyed s t }
-        ensures begun { self.new.begun ≡ false }
+        ensures moved { feeding_bits E.bits self.new ≡ after_end (feeding_bits E.bits self.old) }
+        ensures whole { EndsString (feeding_bits E.bits self.old) (feeding_bits E.bits self.new) }
+        ensures string { is_open self.new ≡ false }
     {
         self.duplex.blank(2);
-        self.begun = false;
+        self.string_open = false;
     }
 
-    // Ends a string that has begun, and goes over to squeezing.
+    // Ends a string that is open, and goes over to squeezing.
     pub fn finish(mut self) -> Squeezing<E>
-        ensures { E.bits result.duplex.engine ≡ finished (E.bits self.duplex.engine) self.begun }
+        ensures { squeezing_bits E.bits result ≡ finished (feeding_bits E.bits self) (is_open self) }
     {
-        self.end_begun();
+        self.end_open();
         let Feeding {
             mut duplex,
-            begun: _,
+            string_open: _,
         } = self;
-        duplex.blank(8);
+        duplex.blank(BLANKS);
         Squeezing { duplex }
     }
 
-    // Ends a string that has begun.
-    fn end_begun(&mut self)
-        ensures { E.bits self.new.duplex.engine ≡ all_ended (E.bits self.old.duplex.engine) self.old.begun }
+    // Ends a string that is open.
+    fn end_open(&mut self)
+        ensures { feeding_bits E.bits self.new ≡ closed (feeding_bits E.bits self.old) (is_open self.old) }
     {
-        if self.begun {
+        if self.string_open {
             self.end_string();
         }
     }
@@ -78,8 +78,8 @@ impl<E: Engine> Feeding<E> {
 impl<E: Engine> Squeezing<E> {
     // Fills `out`. Each call takes readings of its own, and drops the bytes that are over.
     pub fn squeeze(&mut self, out: &mut [u8])
-        ensures sum { out.new ≡ squeezed (E.bits self.old.duplex.engine) (length out.old) }
-        ensures moved { E.bits self.new.duplex.engine ≡ after_squeezing (E.bits self.old.duplex.engine) (length out.old) }
+        ensures out { out.new ≡ squeezed (squeezing_bits E.bits self.old) (length out.old) }
+        ensures moved { squeezing_bits E.bits self.new ≡ after_squeezing (squeezing_bits E.bits self.old) (length out.old) }
     {
         self.duplex.squeeze(out);
     }

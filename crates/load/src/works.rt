@@ -2,7 +2,7 @@
 ghost use Rattle.std.specs.Prelude.{◌≡◌, ◌+◌, ◌^◌, [], ◌∷◌, length, replicate};
 ghost use Rattle.duplex.specs.State.{step, reading};
 ghost use Rattle.duplex.specs.Strings.{squeezed, after_squeezing};
-ghost use Rattle.digests.specs.Digests.{digested};
+ghost use Rattle.digests.specs.Digests.{digest_of};
 ghost use Rattle.session.specs.Calls.{session_bits, seal_answer, seal_bits, seal_out, seal_tag};
 ghost use Rattle.link.specs.Calls.{stands, write_answer, write_standing, write_out};
 ghost use Rattle.link.specs.Kinds.{kind_byte};
@@ -42,7 +42,7 @@ pub(crate) struct Digesting<E> {
 }
 
 impl<E: Engine> Work for Digesting<E> {
-    ghost turned = { λ text a b. b.1 ≡ digested (text ∷ []) (length a.1) };
+    ghost turned = { λ text a b. b.1 ≡ digest_of (text ∷ []) (length a.1) };
 
     fn turn(&mut self, text: &[u8], out: &mut [u8]) {
         let whole = Entry {

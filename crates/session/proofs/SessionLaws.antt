@@ -1,5 +1,5 @@
 -- Sealing and opening undo each other, and what the calls answer, case by case.
-use Rattle.std.proofs.Common.{◌≡◌, ℕ, ◌≤◌, Bool, true, false, cond, ltb, List, ◌++◌, length, take, drop, Ok, Err, sym, refl, ap, ◌∙◌, ap₂}
+use Rattle.std.proofs.Common.{◌≡◌, ◌≢◌, ℕ, ◌≤◌, Bool, true, false, cond, ltb, List, ◌++◌, length, take, drop, Ok, Err, sym, refl, ap, ◌∙◌, ap₂, arith}
 use Rattle.std.proofs.lemmas.Slice.Eq.{bytes_eq-Decides}
 use Rattle.std.proofs.lemmas.List.{take_at}
 use Rattle.std.proofs.lemmas.Bool.{le-ltb}
@@ -66,6 +66,17 @@ module _ (s ad c tag : List ℕ) (room : ℕ) where
       at : (accepted : Bool) → opens s ad c tag ≡ accepted → verdict c accepted ≡ Err f → (f ≡ Tag (length c)) × (opens s ad c tag ≡ false)
       at true o h = cc
       at false o h = (cc, o)
+
+-- what sealing writes is refused with any other tag
+pub other_refused : (s ad text tag : List ℕ) (room : ℕ) → tag ≢ tag_of s ad text → length text ≤ room → open_answer s ad (ciphertext_of s ad text) tag room ≡ Err (Tag (length text))
+other_refused s ad text tag room other fits =
+    let n = length-cipher s ad text in
+    open_fits s ad (ciphertext_of s ad text) tag room (omega (arith, n))
+    ∙ (at (opens s ad (ciphertext_of s ad text) tag) refl ∙ ap (λ k. Err (Tag k)) n)
+  where
+    at : (accepted : Bool) → opens s ad (ciphertext_of s ad text) tag ≡ accepted → verdict (ciphertext_of s ad text) accepted ≡ Err (Tag (length (ciphertext_of s ad text)))
+    at true o = absurd (other (opens_tag s ad (ciphertext_of s ad text) tag o ∙ ap (tag_of s ad) (plaintext-ciphertext s ad text)))
+    at false o = refl
 
 -- The two theorems, of what an opening with room enough leaves.
 module _ (s ad c tag old : List ℕ) (r : Answer) (s' new : List ℕ) (value : r ≡ verdict c (opens s ad c tag)) (moved : s' ≡ after_sealing s ad (plaintext_of s ad c)) (out : new ≡ shown (opens s ad c tag) (plaintext_of s ad c) ++ drop (length c) old) where

@@ -2,25 +2,22 @@
 use Rattle.std.specs.Prelude.{ℕ, not, List, [], ◌∷◌, length, nat_lt}
 use Rattle.refusals.specs.declared.Layer.TheVariants.{Session}
 use Rattle.refusals.specs.declared.Refusal.{Refusal}
-use Rattle.refusals.specs.Tables.{Table}
+use Rattle.refusals.specs.Tables.{Table, refusal_of}
 use Rattle.session.specs.declared.fault.SessionFault.{SessionFault}
 use Rattle.session.specs.declared.fault.SessionFault.TheVariants.{Short, Tag}
 use Rattle.session.specs.Sessions.{opens}
 
-abbrev session : ℕ → ℕ → Refusal
-session number place = record { number = number; layer = Session; place = place }
-
 abbrev pub told : SessionFault → Refusal
-told (Short room) = session 5 room
-told (Tag ciphertext) = session 7 ciphertext
+told (Short room) = refusal_of Session 5 room
+told (Tag ciphertext) = refusal_of Session 7 ciphertext
 
 -- sealing a text with room for so many bytes
 unfoldable pub seal_table : List ℕ → ℕ → Table
-seal_table text room = (nat_lt room (length text), session 5 room) ∷ []
+seal_table text room = (nat_lt room (length text), refusal_of Session 5 room) ∷ []
 
 -- opening a ciphertext c and a tag at the bits s, with associated data ad and room for so many bytes
 unfoldable pub open_table : List ℕ → List ℕ → List ℕ → List ℕ → ℕ → Table
 open_table s ad c tag room =
-    (nat_lt room (length c), session 5 room)
-    ∷ (not (opens s ad c tag), session 7 (length c))
+    (nat_lt room (length c), refusal_of Session 5 room)
+    ∷ (not (opens s ad c tag), refusal_of Session 7 (length c))
     ∷ []

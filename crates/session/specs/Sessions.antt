@@ -2,7 +2,7 @@
 use Rattle.std.specs.Prelude.{ℕ, Bool, cond, List, length, replicate}
 use Rattle.std.specs.Str.{bytes_eq}
 use Rattle.duplex.specs.State.{zeros}
-use Rattle.duplex.specs.Strings.{absorbed, encrypted, decrypted, blanked, squeezed, after_squeezing}
+use Rattle.duplex.specs.Strings.{absorbed, encrypted, decrypted, after_blanks, output, after_output}
 
 -- the bits after a key
 unfoldable pub after_key : List ℕ → List ℕ
@@ -10,7 +10,7 @@ after_key key = absorbed zeros key
 
 -- the bits after a nonce
 unfoldable pub after_nonce : List ℕ → List ℕ → List ℕ
-after_nonce s nonce = blanked (absorbed s nonce) 8
+after_nonce s nonce = after_blanks (absorbed s nonce)
 
 -- the bits of a session that a key and a nonce begin
 abbrev pub begun : List ℕ → List ℕ → List ℕ
@@ -21,15 +21,11 @@ begun key nonce = after_nonce (after_key key) nonce
 unfoldable pub ciphertext_of : List ℕ → List ℕ → List ℕ → List ℕ
 ciphertext_of s ad text = encrypted (absorbed s ad) text
 
--- the bits before the tag is squeezed
-abbrev pub before_tag : List ℕ → List ℕ → List ℕ → List ℕ
-before_tag s ad text = blanked (absorbed (absorbed s ad) text) 8
-
 unfoldable pub tag_of : List ℕ → List ℕ → List ℕ → List ℕ
-tag_of s ad text = squeezed (before_tag s ad text) 16
+tag_of s ad text = output (absorbed (absorbed s ad) text) 16
 
 unfoldable pub after_sealing : List ℕ → List ℕ → List ℕ → List ℕ
-after_sealing s ad text = after_squeezing (before_tag s ad text) 16
+after_sealing s ad text = after_output (absorbed (absorbed s ad) text) 16
 
 -- Opening: the text of a ciphertext, and whether its tag is the one that sealing this text gives, in all 16 bytes. The bits after it are those after sealing the text.
 

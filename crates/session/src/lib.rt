@@ -8,6 +8,6 @@ mod sealing;
 mod values;
 
 pub use fault::SessionFault;
-pub use figures::beginning_steps;
+pub use figures::session_figures;
 pub use sealing::{Keyed, Session};
 pub use values::{Key, Nonce, Tag};

@@ -1,6 +1,6 @@
 // Keyed states and sessions. The order of the calls is in the types: only what was given a nonce can seal and open.
 ghost use Rattle.std.specs.Prelude.{◌≡◌, length};
-ghost use Rattle.duplex.specs.Strings.{blanked, squeezed, after_squeezing};
+ghost use Rattle.duplex.specs.Strings.{output, after_output};
 ghost use Rattle.refusals.specs.Tables.{first_of, refused_by};
 ghost use Rattle.session.specs.Refusals.{told, seal_table, open_table};
 ghost use Rattle.session.specs.Sessions.{after_key, after_nonce, begun, ciphertext_of, tag_of, after_sealing, plaintext_of, opens, shown};
@@ -10,10 +10,7 @@ use crate::fault::SessionFault;
 use crate::guard::Guard;
 use crate::values::{Key, Nonce, Tag};
 use duplex::Engine;
-use strings::Duplex;
-
-// The empty steps after a nonce, and before a tag.
-const BLANKS: usize = 8;
+use strings::{BLANKS, Duplex};
 
 // A state that has absorbed a key and waits for a nonce.
 #[derive(Drop)]
@@ -173,10 +170,10 @@ impl<E: Engine> Session<E> {
         Ok(ciphertext.len())
     }
 
-    // The tag of what has been absorbed. Digests blank and squeeze so too: two calls each, and a function for both would be no shorter.
+    // The tag of what has been absorbed.
     fn squeeze_tag(&mut self) -> Tag
-        ensures value { result.bytes ≡ squeezed (blanked (session_bits E.bits self.old) 8) 16 }
-        ensures moved { session_bits E.bits self.new ≡ after_squeezing (blanked (session_bits E.bits self.old) 8) 16 }
+        ensures value { result.bytes ≡ output (session_bits E.bits self.old) 16 }
+        ensures moved { session_bits E.bits self.new ≡ after_output (session_bits E.bits self.old) 16 }
     {
         let mut bytes = [0; 16];
         self.duplex.blank(BLANKS);

@@ -1,11 +1,10 @@
 // The string operations of the suite, written once over any engine.
 #![tactic(auto)]
 
-ghost use Rattle.std.specs.Prelude.{◌≡◌, ℕ, ◌≤◌, List, [], length};
+ghost use Rattle.std.specs.Prelude.{◌≡◌, ◌≤◌, [], length};
 ghost use Rattle.duplex.specs.State.{zeros, step, reading};
-ghost use Rattle.duplex.specs.Strings.{padded, blocks, absorbed, absorbed_unkeyed, keystream_added, encrypted, decrypted, blanked, word_bytes, squeezed, after_squeezing};
+ghost use Rattle.duplex.specs.Strings.{padded, blocks, absorbed, absorbed_unkeyed, appended, keystream_added, encrypted, decrypted, after_decrypting, UndoesEncrypting, blanked, word_bytes, squeezed, after_squeezing};
 ghost use Rattle.strings.specs.Crypt.{after, sums, ends};
-ghost use Rattle.strings.specs.Unkeyed.{appended};
 
 mod block;
 mod cipher;
@@ -13,6 +12,9 @@ mod cipher;
 use block::Block;
 use cipher::{Cipher, Decrypt, Encrypt};
 use duplex::Engine;
+
+// The empty steps that follow a nonce, and precede a tag or the bytes of a digest.
+pub const BLANKS: usize = 8;
 
 // A duplex object: an engine, and the string operations on it.
 #[derive(Drop)]
@@ -68,7 +70,7 @@ impl<E: Engine> Duplex<E> {
 
     // Encrypts in place.
     pub fn encrypt(&mut self, text: &mut [u8])
-        ensures sum { text.new ≡ encrypted (E.bits self.old.engine) text.old }
+        ensures text { text.new ≡ encrypted (E.bits self.old.engine) text.old }
         ensures moved { E.bits self.new.engine ≡ absorbed (E.bits self.old.engine) text.old }
     {
         self.crypt::<Encrypt>(text);
@@ -76,9 +78,9 @@ impl<E: Engine> Duplex<E> {
 
     // Decrypts in place. From the state that encrypted a text, this gives the text back, and both sides then mean the same bits.
     pub fn decrypt(&mut self, text: &mut [u8])
-        ensures sum { text.new ≡ decrypted (E.bits self.old.engine) text.old }
-        ensures moved { E.bits self.new.engine ≡ absorbed (E.bits self.old.engine) (decrypted (E.bits self.old.engine) text.old) }
-        ensures undoes { (t : List ℕ) → text.old ≡ encrypted (E.bits self.old.engine) t → (text.new ≡ t) × (E.bits self.new.engine ≡ absorbed (E.bits self.old.engine) t) }
+        ensures text { text.new ≡ decrypted (E.bits self.old.engine) text.old }
+        ensures moved { E.bits self.new.engine ≡ after_decrypting (E.bits self.old.engine) text.old }
+        ensures undoes { UndoesEncrypting (E.bits self.old.engine) text.old text.new (E.bits self.new.engine) }
     {
         self.crypt::<Decrypt>(text);
     }
@@ -94,7 +96,7 @@ impl<E: Engine> Duplex<E> {
 
     // Fills `out` with readings, each followed by an empty step; bytes over are dropped. It goes by places: nothing is known of what a slice ends as that `chunks_mut` lends.
     pub fn squeeze(&mut self, out: &mut [u8])
-        ensures sum { out.new ≡ squeezed (E.bits self.old.engine) (length out.old) }
+        ensures out { out.new ≡ squeezed (E.bits self.old.engine) (length out.old) }
         ensures moved { E.bits self.new.engine ≡ after_squeezing (E.bits self.old.engine) (length out.old) }
     {
         for i in (0..out.len()).step_by(4) {
@@ -123,7 +125,7 @@ impl<E: Engine> Duplex<E> {
 
     // Encrypts or decrypts in place. It goes by places, as `squeeze` does.
     fn crypt<C: Cipher>(&mut self, text: &mut [u8])
-        ensures sum { text.new ≡ sums C.rule (E.bits self.old.engine) (blocks text.old) }
+        ensures text { text.new ≡ sums C.rule (E.bits self.old.engine) (blocks text.old) }
         ensures moved { E.bits self.new.engine ≡ ends C.rule (E.bits self.old.engine) (blocks text.old) }
     {
         let whole = text.len() / 4;
@@ -136,7 +138,7 @@ impl<E: Engine> Duplex<E> {
     // Adds the reading to a block of at most four bytes, and steps with the text block.
     fn crypt_block<C: Cipher>(&mut self, block: &mut [u8])
         requires { length block.old ≤ 4 }
-        ensures sum { block.new ≡ keystream_added (reading (E.bits self.old.engine)) block.old }
+        ensures block { block.new ≡ keystream_added (reading (E.bits self.old.engine)) block.old }
         ensures moved { E.bits self.new.engine ≡ after C.rule (E.bits self.old.engine) block.old }
     {
         let given = Block { bytes: block }.number();

@@ -12,11 +12,11 @@ loop-i-preserved g c =
 pub returns : goal.returns
 returns g c =
     let end = squeeze_end (g.E.Engine.bits c.loop-i.self.engine) c.loop-i.out _ _ (length c.args.out.now) c.loop-i.i c.loop-i.auto.out (omega arith) c.loop-i.invariant in
-    record { sum = end.0; moved = end.1 }
+    record { out = end.0; moved = end.1 }
 
 pub returns-2 : goal.returns-2
 returns-2 g c =
     let bits = g.E.Engine.bits in
     let end = squeeze_last (bits c.loop-i.self.engine) (bits c.squeeze_word-word.new.self.engine) c.loop-i.out c.copy_from_slice.new.self c.squeeze_word-word.result _ _ (length c.args.out.now) c.loop-i.i c.min-end.result
     c.loop-i.auto.out (omega arith) (omega arith) c.min-end.ensures c.squeeze_word-word.ensures.value c.copy_from_slice.ensures.after c.squeeze_word-word.ensures.moved c.loop-i.invariant in
-    record { sum = end.0; moved = end.1 }
+    record { out = end.0; moved = end.1 }
