@@ -3,12 +3,10 @@
 
 use anyhow::ensure;
 use cli::EngineName;
-use console::Console;
-use duplex::Engine;
+use console::run_script;
 use plain::Plain;
 use postponed::Postponed;
-use std::io::{BufWriter, Read, Write};
-use std::rt::Stdout;
+use std::io::{BufReader, BufWriter};
 use std::{env, io};
 use words::Packed;
 
@@ -25,49 +23,14 @@ one it is the postponed engine.
 
 A line that is no command prints '? NUMBER LINE COLUMN' and changes nothing. docs/BENCH.md has all rules.";
 
-// Prints the lines that some bytes of input end.
-fn feed<E: Engine>(
-    console: &mut Console<E>,
-    bytes: &[u8],
-    out: &mut BufWriter<Stdout>,
-) -> io::Result<()> {
-    for byte in bytes {
-        if let Some(reply) = console.push(*byte) {
-            out.write_all(reply.as_slice())?;
-        }
-    }
-    Ok(())
-}
-
-// Reads the input chunk by chunk, until it ends or all lines are read.
-fn run<E: Engine>(rt: &HostRuntime) -> io::Result<()> {
-    let mut console = Console::<E>::new();
-    let mut input = rt.stdin();
-    let mut out = BufWriter::new(rt.alloc(), rt.stdout())?;
-    let mut chunk = [0u8; 4096];
-    // A loop is bounded; the input ends before. One loop for all programs would take a closure, and a public function with one would need a `requires` that it may be called.
-    for _ in 0..u64::MAX {
-        let n = input.read(&mut chunk)?;
-        if n == 0 {
-            break;
-        }
-        feed(&mut console, &chunk[..n], &mut out)?;
-        if console.is_done() {
-            break;
-        }
-    }
-    if let Some(reply) = console.finish() {
-        out.write_all(reply.as_slice())?;
-    }
-    out.flush()
-}
-
 // A closure cannot be generic over the engine, and a trait with an impl in each program would be longer than the three arms.
 fn run_on(rt: &HostRuntime, engine: EngineName) -> io::Result<()> {
+    let input = BufReader::new(rt.alloc(), rt.stdin())?;
+    let mut output = BufWriter::new(rt.alloc(), rt.stdout())?;
     match engine {
-        EngineName::Plain => run::<Plain>(rt),
-        EngineName::Packed => run::<Packed>(rt),
-        EngineName::Postponed => run::<Postponed>(rt),
+        EngineName::Plain => run_script::<Plain, _, _>(input, &mut output),
+        EngineName::Packed => run_script::<Packed, _, _>(input, &mut output),
+        EngineName::Postponed => run_script::<Postponed, _, _>(input, &mut output),
     }
 }
 

@@ -1,3 +1,4 @@
 mod ReplyLaws
 mod RunLaws
+mod ScriptLaws
 mod StringLaws

@@ -64,7 +64,7 @@ module _ (s : List ℕ) (n k : ℕ) where
   kept_line (b ∷ more) l = one_byte b l more (kept_line more) (eqb b line_feed)
 
 -- no line is left to read
-all_read : (b : Standing) (input : List ℕ) → leb most_lines b.lines ≡ true → to_come b input ≡ []
+pub all_read : (b : Standing) (input : List ℕ) → leb most_lines b.lines ≡ true → to_come b input ≡ []
 unfolding to_come replies
 all_read b input done =
     let none : most_lines - b.lines ≡ 0 = omega (arith, leb-true most_lines b.lines done) in

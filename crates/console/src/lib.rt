@@ -4,9 +4,11 @@
 mod carry;
 mod example;
 mod run;
+mod script;
 
 pub use buffer::Buffer;
 pub use carry::interpret;
 pub use commands::{Command, Fault, lines_read_back, parse};
 pub use example::worked_example;
 pub use run::Console;
+pub use script::run_script;
