@@ -10,6 +10,10 @@ name_of Plain = codes "plain"
 name_of Packed = codes "packed"
 name_of Postponed = codes "postponed"
 
+-- the engine of a program that is given no name
+abbrev pub default_engine : EngineName
+default_engine = Postponed
+
 -- the engine where the text is its name, or else another answer
 abbrev pub else_engine : List ℕ → EngineName → Result EngineName NoEngine → Result EngineName NoEngine
 else_engine text engine other = cond (bytes_eq text (name_of engine)) (Ok engine) other

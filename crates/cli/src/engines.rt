@@ -1,18 +1,17 @@
 // The names of the engines.
 ghost use Rattle.std.specs.Prelude.{◌≡◌, Some, codes};
 ghost use Rattle.std.specs.Fmt.{padded};
-ghost use Rattle.cli.specs.Engines.{name_of, engine_named, NamesReadBack};
+ghost use Rattle.cli.specs.Engines.{name_of, default_engine, engine_named, NamesReadBack};
 
 use std::error::Error;
 use std::fmt;
 use std::str::FromStr;
 
 // An engine as the arguments of a program name it.
-#[derive(Clone, Copy, Debug, Default, PartialEq, Eq)]
+#[derive(Clone, Copy, Debug, PartialEq, Eq)]
 pub enum EngineName {
     Plain,
     Packed,
-    #[default]
     Postponed,
 }
 
@@ -25,6 +24,15 @@ impl EngineName {
             EngineName::Packed => "packed",
             EngineName::Postponed => "postponed",
         }
+    }
+}
+
+// Written out, since a derived one promises nothing.
+impl Default for EngineName {
+    ghost is_default = { λ engine. engine ≡ default_engine };
+
+    fn default() -> EngineName {
+        Self::Postponed
     }
 }
 

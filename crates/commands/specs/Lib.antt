@@ -1,3 +1,4 @@
 pub mod Refusals
 pub mod Lines
 pub mod Writing
+pub mod Figures

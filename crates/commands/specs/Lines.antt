@@ -1,6 +1,7 @@
 -- The lines of the bench: what a line asks for, or why it is refused.
 use Rattle.std.specs.Prelude.{ℕ, ◌+◌, ◌-◌, ◌*◌, ◌≤◌, cond, ◌&&◌, List, [], ◌∷◌, length, drop, Some, None, Ok, Err, Option, Result, ◌==◌, nat_le, nat_lt}
 use Rattle.std.specs.Option.{option_map}
+use Rattle.std.specs.Result.{result_map_both}
 use Rattle.digits.specs.declared.single.Letters.TheVariants.{Lower}
 use Rattle.digits.specs.Digits.{char_of, is_decimal, bad_hex}
 use Rattle.digits.specs.Pairs.{unhex_by}
@@ -38,8 +39,7 @@ with_count [] = Err Byte
 with_count (c ∷ digits) = cond (c == (char_of " ")) (count_digits digits) (Err Byte)
 
 abbrev pub counting : (ℕ → Command) → Result ℕ Fault → Result Command Fault
-counting command (Ok n) = Ok (command n)
-counting command (Err fault) = Err fault
+counting command r = result_map_both command (λ fault. fault) r
 
 -- what follows the letter of a command that stands alone
 abbrev pub alone : Command → List ℕ → Result Command Fault

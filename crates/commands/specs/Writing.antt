@@ -38,6 +38,6 @@ takes_string (Blank n) = false
 takes_string (Squeeze n) = false
 
 -- what is written is read back: the command, and the string of one that takes a string
-pub record ReadsBack : Type 0 where
+pub record LinesReadBack : Type 0 where
   pub commands : (command : Command) (t : List ℕ) → Within command → ShortString t → parsed (line_of command t) ≡ Ok command
   pub strings : (command : Command) (t : List ℕ) → takes_string command ≡ true → ShortString t → string_of (line_of command t) ≡ t

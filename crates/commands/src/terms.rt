@@ -22,9 +22,9 @@ pub enum Fault {
     Letter,
     // a wrong byte after the letter, or none where one is owed
     Byte,
-    // a bad hex digit, or an odd count of digits
+    // a bad hex digit, an odd count of digits, or a blank with nothing after it
     Hex { column: usize },
-    // a bad count
+    // a bad count, or none after a blank
     Count,
     // too many bytes
     Length,

@@ -7,7 +7,7 @@ use Rattle.commands.specs.declared.terms.Fault.TheVariants.{Length}
 use Rattle.buffer.specs.Buffers.{kept}
 use Rattle.commands.specs.Lines.{parsed, short_line, string_of}
 use Rattle.console.specs.Replies.{bits_by, text_by, line_feed, line_bits, printed}
-use Rattle.console.specs.Runs.{lines_of, replies, transcript, Standing, stands, to_come, ended, reply, after_byte, byte_reply, end_reply, bytes_of, most_lines}
+use Rattle.console.specs.Runs.{lines_of, replies, transcript, RunState, run_state, to_come, ended, reply, after_byte, byte_reply, end_reply, bytes_of, most_lines}
 use Rattle.buffer.proofs.BufferLaws.{take_front}
 
 parsed_long : (l : List ℕ) → 130 < length l → parsed l ≡ Err Length
@@ -64,14 +64,14 @@ module _ (s : List ℕ) (n k : ℕ) where
   kept_line (b ∷ more) l = one_byte b l more (kept_line more) (eqb b line_feed)
 
 -- no line is left to read
-pub all_read : (b : Standing) (input : List ℕ) → leb most_lines b.lines ≡ true → to_come b input ≡ []
+pub all_read : (b : RunState) (input : List ℕ) → leb most_lines b.lines ≡ true → to_come b input ≡ []
 unfolding to_come replies
 all_read b input done =
     let none : most_lines - b.lines ≡ 0 = omega (arith, leb-true most_lines b.lines done) in
     ap (λ k. replies b.bits (b.lines + 1) (take k (lines_of b.begun input))) none
 
 -- a line more
-next_line : (b : Standing) (rest : List (List ℕ)) → leb most_lines b.lines ≡ false
+next_line : (b : RunState) (rest : List (List ℕ)) → leb most_lines b.lines ≡ false
     → replies b.bits (b.lines + 1) (take (most_lines - b.lines) (b.begun ∷ rest)) ≡ reply b ++ replies (ended b).bits ((ended b).lines + 1) (take (most_lines - (ended b).lines) rest)
 unfolding replies
 next_line b rest open' =
@@ -79,25 +79,25 @@ next_line b rest open' =
     ap (λ k. replies b.bits (b.lines + 1) (take k (b.begun ∷ rest))) more
 
 -- a byte of input
-take_byte : (b : Standing) (byte : ℕ) (more : List ℕ) → to_come b (byte ∷ more) ≡ bytes_of (byte_reply b byte) ++ to_come (after_byte b byte) more
+take_byte : (b : RunState) (byte : ℕ) (more : List ℕ) → to_come b (byte ∷ more) ≡ bytes_of (byte_reply b byte) ++ to_come (after_byte b byte) more
 unfolding to_come lines_of kept
 take_byte b byte more =
     ⊎_elim
     (λ done. all_read b (byte ∷ more) done
-    ∙ sym (ap (λ t. bytes_of (cond t None (cond (eqb byte line_feed) (Some (reply b)) None)) ++ to_come (cond t b (cond (eqb byte line_feed) (ended b) (stands b.bits (kept b.begun (byte ∷ [])) b.lines))) more) done
+    ∙ sym (ap (λ t. bytes_of (cond t None (cond (eqb byte line_feed) (Some (reply b)) None)) ++ to_come (cond t b (cond (eqb byte line_feed) (ended b) (run_state b.bits (kept b.begun (byte ∷ [])) b.lines))) more) done
     ∙ all_read b more done))
     (λ open'. by_cases open' (eqb byte line_feed)
-    ∙ sym (ap (λ t. bytes_of (cond t None (cond (eqb byte line_feed) (Some (reply b)) None)) ++ to_come (cond t b (cond (eqb byte line_feed) (ended b) (stands b.bits (kept b.begun (byte ∷ [])) b.lines))) more) open'))
+    ∙ sym (ap (λ t. bytes_of (cond t None (cond (eqb byte line_feed) (Some (reply b)) None)) ++ to_come (cond t b (cond (eqb byte line_feed) (ended b) (run_state b.bits (kept b.begun (byte ∷ [])) b.lines))) more) open'))
     (cases_Bool (leb most_lines b.lines))
   where
     by_cases : leb most_lines b.lines ≡ false → (t : Bool)
         → replies b.bits (b.lines + 1) (take (most_lines - b.lines) (cond t (b.begun ∷ lines_of [] more) (lines_of (b.begun ++ byte ∷ []) more)))
-        ≡ bytes_of (cond t (Some (reply b)) None) ++ to_come (cond t (ended b) (stands b.bits (kept b.begun (byte ∷ [])) b.lines)) more
+        ≡ bytes_of (cond t (Some (reply b)) None) ++ to_come (cond t (ended b) (run_state b.bits (kept b.begun (byte ∷ [])) b.lines)) more
     by_cases open' true = next_line b (lines_of [] more) open'
     by_cases open' false = sym (kept_line b.bits (b.lines + 1) (most_lines - b.lines) more (b.begun ++ byte ∷ []))
 
 -- the end of the input
-take_end : (b : Standing) → to_come b [] ≡ bytes_of (end_reply b)
+take_end : (b : RunState) → to_come b [] ≡ bytes_of (end_reply b)
 unfolding to_come lines_of replies
 take_end b =
     ⊎_elim
@@ -112,12 +112,12 @@ take_end b =
     by_cases open' false =
         next_line b [] open' ∙ ap (λ r. reply b ++ r) (no_replies (ended b).bits ((ended b).lines + 1) (most_lines - (ended b).lines)) ∙ append-nil (reply b)
 
-pub byte_prints : (b b' : Standing) (byte : ℕ) (o : Option (List ℕ)) → b' ≡ after_byte b byte → o ≡ byte_reply b byte → (more : List ℕ) → to_come b (byte ∷ more) ≡ bytes_of o ++ to_come b' more
+pub byte_prints : (b b' : RunState) (byte : ℕ) (o : Option (List ℕ)) → b' ≡ after_byte b byte → o ≡ byte_reply b byte → (more : List ℕ) → to_come b (byte ∷ more) ≡ bytes_of o ++ to_come b' more
 byte_prints b b' byte o moved value more = take_byte b byte more ∙ sym (ap₂ (λ o b. bytes_of o ++ to_come b more) value moved)
 
-pub end_prints : (b : Standing) (o : Option (List ℕ)) → o ≡ end_reply b → to_come b [] ≡ bytes_of o
+pub end_prints : (b : RunState) (o : Option (List ℕ)) → o ≡ end_reply b → to_come b [] ≡ bytes_of o
 end_prints b o value = take_end b ∙ sym (ap bytes_of value)
 
-pub start_prints : (b : Standing) → b ≡ stands zeros [] 0 → (input : List ℕ) → to_come b input ≡ transcript input
+pub start_prints : (b : RunState) → b ≡ run_state zeros [] 0 → (input : List ℕ) → to_come b input ≡ transcript input
 unfolding to_come
 start_prints b e input = ap (λ b. to_come b input) e

@@ -3,20 +3,20 @@ use Rattle.std.proofs.Common.{◌≡◌, ℕ, true, leb, List, [], ◌∷◌, �
 use Rattle.std.specs.Io.KnownBytes.{Appends, Consumes, IsAtEnd, Keeps}
 use Rattle.std.specs.Io.Iter.{YieldsKnownByte}
 use Rattle.std.proofs.KnownBytes.{Appends-nil, Appends-trans, Appends-kept}
-use Rattle.console.specs.Runs.{Standing, to_come, most_lines}
+use Rattle.console.specs.Runs.{RunState, to_come, most_lines}
 use Rattle.console.proofs.RunLaws.{all_read}
 
 -- what is printed for the rest of the input ends up in the writer
-abbrev pub Prints : Standing → Option (List ℕ) → Option (List ℕ) → Option (List ℕ) → Type 0
+abbrev pub Prints : RunState → Option (List ℕ) → Option (List ℕ) → Option (List ℕ) → Type 0
 Prints b left held last = IfSome left (λ input. Appends held last (to_come b input))
 
 pub on_ok : {T E : Type 0} (r : Result T E) (P : Type 0) → P → OnOk r P
 on_ok (Ok v) P p = p
 on_ok (Err e) P p = tt
 
-module _ (b : Standing) (held held' last : Option (List ℕ)) where
+module _ (b : RunState) (held held' last : Option (List ℕ)) where
   -- a byte, and then the rest
-  pub byte_then : {E : Type 0} (b' : Standing) (byte : ℕ) (r : Result ℕ E) (bytes : List ℕ) (left left' : Option (List ℕ)) → r ≡ Ok byte → ((more : List ℕ) → to_come b (byte ∷ more) ≡ bytes ++ to_come b' more)
+  pub byte_then : {E : Type 0} (b' : RunState) (byte : ℕ) (r : Result ℕ E) (bytes : List ℕ) (left left' : Option (List ℕ)) → r ≡ Ok byte → ((more : List ℕ) → to_come b (byte ∷ more) ≡ bytes ++ to_come b' more)
       → YieldsKnownByte left (Some r) left' → Appends held held' bytes → Prints b' left' held' last → Prints b left held last
   byte_then b' byte r bytes None left' e law eaten now rest = tt
   byte_then b' byte r bytes (Some xs) None e law eaten now rest = absurd (subst (λ r. YieldsKnownByte (Some xs) (Some r) None) e eaten)
@@ -30,6 +30,6 @@ module _ (b : Standing) (held held' last : Option (List ℕ)) where
   end_then bytes (Some xs) none law now kept = subst (Appends held last) (sym (ap (to_come b) none ∙ law)) (Appends-kept held held' last bytes now kept)
 
 -- no line is left to read
-pub done_then : (b : Standing) (held last left : Option (List ℕ)) → leb most_lines b.lines ≡ true → Keeps held last → Prints b left held last
+pub done_then : (b : RunState) (held last left : Option (List ℕ)) → leb most_lines b.lines ≡ true → Keeps held last → Prints b left held last
 done_then b held last None done kept = tt
 done_then b held last (Some xs) done kept = subst (Appends held last) (sym (all_read b xs done)) (Appends-kept held held last [] (Appends-nil held) kept)

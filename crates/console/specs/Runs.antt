@@ -24,41 +24,41 @@ abbrev pub transcript : List ℕ → List ℕ
 transcript input = replies zeros 1 (take most_lines (lines_of [] input))
 
 -- where a bench stands: its bits, what it holds of the line that it is reading, and how many lines came before
-pub record Standing : Type 0 where
+pub record RunState : Type 0 where
   pub bits : List ℕ
   pub begun : List ℕ
   pub lines : ℕ
 
-abbrev pub stands : List ℕ → List ℕ → ℕ → Standing
-stands s begun n = record { bits = s; begun = begun; lines = n }
+abbrev pub run_state : List ℕ → List ℕ → ℕ → RunState
+run_state s begun n = record { bits = s; begun = begun; lines = n }
 
 -- where a console stands, by the bits of its engine
-abbrev pub standing : {E : Type 0} → (E → List ℕ) → Console E → Standing
-standing bits c = stands (bits c.duplex.engine) (held c.line) c.lines
+abbrev pub state_of : {E : Type 0} → (E → List ℕ) → Console E → RunState
+state_of bits c = run_state (bits c.duplex.engine) (held c.line) c.lines
 
 -- what is printed for the rest of an input
-unfoldable pub to_come : Standing → List ℕ → List ℕ
+unfoldable pub to_come : RunState → List ℕ → List ℕ
 to_come b input = replies b.bits (b.lines + 1) (take (most_lines - b.lines) (lines_of b.begun input))
 
 -- the line that was begun has ended: where the bench stands then, and what it prints
-abbrev pub ended : Standing → Standing
-ended b = stands (line_bits b.bits b.begun) [] (b.lines + 1)
+abbrev pub ended : RunState → RunState
+ended b = run_state (line_bits b.bits b.begun) [] (b.lines + 1)
 
-abbrev pub reply : Standing → List ℕ
+abbrev pub reply : RunState → List ℕ
 reply b = printed b.bits (b.lines + 1) b.begun
 
 -- the same after a byte of input; once all lines are read, nothing happens
-abbrev pub after_byte : Standing → ℕ → Standing
-after_byte b byte = cond (nat_le most_lines b.lines) b (cond (byte == line_feed) (ended b) (stands b.bits (kept b.begun (byte ∷ [])) b.lines))
+abbrev pub after_byte : RunState → ℕ → RunState
+after_byte b byte = cond (nat_le most_lines b.lines) b (cond (byte == line_feed) (ended b) (run_state b.bits (kept b.begun (byte ∷ [])) b.lines))
 
-abbrev pub byte_reply : Standing → ℕ → Option (List ℕ)
+abbrev pub byte_reply : RunState → ℕ → Option (List ℕ)
 byte_reply b byte = cond (nat_le most_lines b.lines) None (cond (byte == line_feed) (Some (reply b)) None)
 
 -- the same at the end of the input
-abbrev pub after_end : Standing → Standing
+abbrev pub after_end : RunState → RunState
 after_end b = cond (nat_le most_lines b.lines) b (cond (length b.begun == 0) b (ended b))
 
-abbrev pub end_reply : Standing → Option (List ℕ)
+abbrev pub end_reply : RunState → Option (List ℕ)
 end_reply b = cond (nat_le most_lines b.lines) None (cond (length b.begun == 0) None (Some (reply b)))
 
 -- the bytes of a reply, none where there is none

@@ -8,7 +8,7 @@ mod script;
 
 pub use buffer::Buffer;
 pub use carry::interpret;
-pub use commands::{Command, Fault, lines_read_back, parse};
+pub use commands::{Command, Fault, line_figures, lines_read_back, parse};
 pub use example::worked_example;
 pub use run::Console;
 pub use script::run_script;

@@ -3,7 +3,7 @@ ghost use Rattle.std.specs.Prelude.{◌≡◌, ℕ, ◌+◌, ◌<◌, List, [], 
 ghost use Rattle.std.specs.Option.{option_map};
 ghost use Rattle.duplex.specs.State.{zeros};
 ghost use Rattle.buffer.specs.Buffers.{held};
-ghost use Rattle.console.specs.Runs.{stands, standing, transcript, to_come, ended, reply, after_byte, byte_reply, after_end, end_reply, bytes_of, most_lines};
+ghost use Rattle.console.specs.Runs.{run_state, state_of, transcript, to_come, ended, reply, after_byte, byte_reply, after_end, end_reply, bytes_of, most_lines};
 
 use crate::carry::interpret;
 use buffer::Buffer;
@@ -23,8 +23,8 @@ pub struct Console<E> {
 
 impl<E: Engine> Console<E> {
     pub fn new() -> Console<E>
-        ensures value { standing E.bits result ≡ stands zeros [] 0 }
-        ensures prints { (input : List ℕ) → to_come (standing E.bits result) input ≡ transcript input }
+        ensures value { state_of E.bits result ≡ run_state zeros [] 0 }
+        ensures prints { (input : List ℕ) → to_come (state_of E.bits result) input ≡ transcript input }
     {
         Console {
             duplex: Duplex::new(),
@@ -42,25 +42,25 @@ impl<E: Engine> Console<E> {
 
     // Takes in a byte, and gives the line to print where it ends one. The exact effect is proved case by case at take_byte, and the law over the input to come once, here, from it.
     pub fn push(&mut self, byte: u8) -> Option<Buffer>
-        ensures moved { standing E.bits self.new ≡ after_byte (standing E.bits self.old) byte }
-        ensures value { option_map held result ≡ byte_reply (standing E.bits self.old) byte }
-        ensures prints { (more : List ℕ) → to_come (standing E.bits self.old) (byte ∷ more) ≡ bytes_of (option_map held result) ++ to_come (standing E.bits self.new) more }
+        ensures moved { state_of E.bits self.new ≡ after_byte (state_of E.bits self.old) byte }
+        ensures value { option_map held result ≡ byte_reply (state_of E.bits self.old) byte }
+        ensures prints { (more : List ℕ) → to_come (state_of E.bits self.old) (byte ∷ more) ≡ bytes_of (option_map held result) ++ to_come (state_of E.bits self.new) more }
     {
         self.take_byte(byte)
     }
 
     // The input has ended: gives the line to print where one was begun. As with push, the effect is proved at take_end and the law here.
     pub fn finish(&mut self) -> Option<Buffer>
-        ensures moved { standing E.bits self.new ≡ after_end (standing E.bits self.old) }
-        ensures value { option_map held result ≡ end_reply (standing E.bits self.old) }
-        ensures prints { to_come (standing E.bits self.old) [] ≡ bytes_of (option_map held result) }
+        ensures moved { state_of E.bits self.new ≡ after_end (state_of E.bits self.old) }
+        ensures value { option_map held result ≡ end_reply (state_of E.bits self.old) }
+        ensures prints { to_come (state_of E.bits self.old) [] ≡ bytes_of (option_map held result) }
     {
         self.take_end()
     }
 
     fn take_byte(&mut self, byte: u8) -> Option<Buffer>
-        ensures moved { standing E.bits self.new ≡ after_byte (standing E.bits self.old) byte }
-        ensures value { option_map held result ≡ byte_reply (standing E.bits self.old) byte }
+        ensures moved { state_of E.bits self.new ≡ after_byte (state_of E.bits self.old) byte }
+        ensures value { option_map held result ≡ byte_reply (state_of E.bits self.old) byte }
     {
         if self.is_done() {
             return None;
@@ -73,8 +73,8 @@ impl<E: Engine> Console<E> {
     }
 
     fn take_end(&mut self) -> Option<Buffer>
-        ensures moved { standing E.bits self.new ≡ after_end (standing E.bits self.old) }
-        ensures value { option_map held result ≡ end_reply (standing E.bits self.old) }
+        ensures moved { state_of E.bits self.new ≡ after_end (state_of E.bits self.old) }
+        ensures value { option_map held result ≡ end_reply (state_of E.bits self.old) }
     {
         if self.is_done() || self.line.is_empty() {
             return None;
@@ -85,8 +85,8 @@ impl<E: Engine> Console<E> {
     // Carries out the line that was begun.
     fn end_line(&mut self) -> Buffer
         requires { self.old.lines < most_lines }
-        ensures moved { standing E.bits self.new ≡ ended (standing E.bits self.old) }
-        ensures value { held result ≡ reply (standing E.bits self.old) }
+        ensures moved { state_of E.bits self.new ≡ ended (state_of E.bits self.old) }
+        ensures value { held result ≡ reply (state_of E.bits self.old) }
     {
         self.lines += 1;
         let reply = interpret(&mut self.duplex, self.lines, self.line.as_slice());

@@ -1,15 +1,15 @@
 -- Laws of hex digits: the turns of the loops over them, and digits read back.
 use Rattle.std.proofs.Common.{not, ◌≡◌, ℕ, zero, suc, ◌+◌, ◌-◌, ◌*◌, ◌/◌, ◌%◌, ◌<◌, ◌≤◌, Bool, true, false, cond, ◌&&◌, eqb, leb, List, [], ◌∷◌, ◌++◌, length, get_or, take, drop, set, is_some, Some, None, Option, unwrap_or, sym, refl, ap, ◌∙◌, subst, ap₂, ⊎_elim, arith}
 use Rattle.std.specs.Option.{option_or}
-use Rattle.std.specs.List.{position, position_from}
+use Rattle.std.specs.List.{position_from}
 use Rattle.std.proofs.lemmas.Iterator.Adapters.{position_from-zero}
 use Rattle.std.proofs.lemmas.List.{append_assoc, get_or-take, get_or-drop, drop_more, drop_all, drop-set-lt, length-drop, take-append-drop, take_more_set}
 use Rattle.std.proofs.lemmas.Bool.{and_from, and_right, cases_lt, cond_both, le-leb, lt-leb, lt-ltb, le-ltb, ne_eqb}
 use Rattle.std.specs.Simd.{first_chunks}
 use Rattle.digits.specs.declared.single.Letters.{Letters}
 use Rattle.digits.specs.declared.single.Letters.TheVariants.{Lower, Either}
-use Rattle.digits.specs.Digits.{low_value, capital_value, value_of, value_or_zero, bad_digit, bad_hex, hex_digit}
-use Rattle.digits.specs.Pairs.{unhex_by, hex, laid}
+use Rattle.digits.specs.Digits.{low_value, capital_value, value_of, value_or_zero, bad_hex, hex_digit, capital_digit}
+use Rattle.digits.specs.Pairs.{unhex_by, two_each, hex, capital_hex, laid}
 
 abbrev pub no_digit : Letters → ℕ → Bool
 no_digit letters c = not (is_some (value_of letters c))
@@ -17,27 +17,22 @@ no_digit letters c = not (is_some (value_of letters c))
 abbrev at_end : List ℕ → Option ℕ
 at_end xs = cond (eqb (length xs % 2) 1) (Some (length xs)) None
 
-swapped : (t : Bool) (a b : Option ℕ) → cond (not t) a b ≡ cond t b a
-swapped true a b = refl
-swapped false a b = refl
+-- the first bad digit by recursion
+abbrev bad_from : Letters → ℕ → List ℕ → Option ℕ
+bad_from letters place xs = position_from (no_digit letters) place xs
 
--- the first bad digit is the first byte that is none
-bad_from : (letters : Letters) (place : ℕ) (xs : List ℕ) → position_from (no_digit letters) place xs ≡ bad_digit letters place xs
-bad_from letters place [] = refl
-bad_from letters place (x ∷ xs) = swapped (is_some (value_of letters x)) (Some place) (position_from (no_digit letters) (place + 1) xs) ∙ ap (λ o. cond (is_some (value_of letters x)) o (Some place)) (bad_from letters (place + 1) xs)
-
-pub bad_first : (letters : Letters) (xs : List ℕ) (o odd : Option ℕ) → o ≡ position (no_digit letters) xs → odd ≡ at_end xs → option_or o odd ≡ bad_hex letters xs
-bad_first letters xs o odd e e' = ap₂ option_or (e ∙ position_from-zero (no_digit letters) xs ∙ bad_from letters 0 xs) e'
+by_recursion : (letters : Letters) (xs : List ℕ) → bad_hex letters xs ≡ option_or (bad_from letters 0 xs) (at_end xs)
+by_recursion letters xs = ap (λ o. option_or o (at_end xs)) (position_from-zero (no_digit letters) xs)
 
 -- a bad place is at most past the end
 abbrev Within : ℕ → Option ℕ → Type 0
 Within n None = Unit {0}
 Within n (Some place) = place ≤ n
 
-within_digits : (letters : Letters) (place n : ℕ) (xs : List ℕ) → place + length xs ≡ n → Within n (bad_digit letters place xs)
+within_digits : (letters : Letters) (place n : ℕ) (xs : List ℕ) → place + length xs ≡ n → Within n (bad_from letters place xs)
 within_digits letters place n [] e = tt
 within_digits letters place n (x ∷ xs) e =
-    cond_both (is_some (value_of letters x)) (bad_digit letters (place + 1) xs) (Some place) (Within n) (λ _. within_digits letters (place + 1) n xs (omega arith)) (λ _. omega arith)
+    cond_both (no_digit letters x) (Some place) (bad_from letters (place + 1) xs) (Within n) (λ _. omega arith) (λ _. within_digits letters (place + 1) n xs (omega arith))
 
 within_or : (n : ℕ) (o p : Option ℕ) → Within n o → Within n p → Within n (option_or o p)
 within_or n None p h k = k
@@ -45,8 +40,8 @@ within_or n (Some place) p h k = h
 
 pub bad_within : (letters : Letters) (xs : List ℕ) (place : ℕ) → Some place ≡ bad_hex letters xs → place ≤ length xs
 bad_within letters xs place e =
-    subst (Within (length xs)) (sym e)
-    (within_or (length xs) (bad_digit letters 0 xs) (at_end xs) (within_digits letters 0 (length xs) xs (omega arith)) (cond_both (eqb (length xs % 2) 1) (Some (length xs)) None (Within (length xs)) (λ _. omega arith) (λ _. tt)))
+    subst (Within (length xs)) (sym (e ∙ by_recursion letters xs))
+    (within_or (length xs) (bad_from letters 0 xs) (at_end xs) (within_digits letters 0 (length xs) xs (omega arith)) (cond_both (eqb (length xs % 2) 1) (Some (length xs)) None (Within (length xs)) (λ _. omega arith) (λ _. tt)))
 
 -- a digit of the pair at i
 chunk_at : (xs : List ℕ) (k i j : ℕ) (d : List ℕ) → i < k → j < 2 → get_or (get_or (first_chunks 2 k xs) i d) j 0 ≡ get_or xs (2 * i + j) 0
@@ -114,9 +109,12 @@ length-unhex letters [] = refl
 length-unhex letters (a ∷ []) = refl
 length-unhex letters (a ∷ b ∷ xs) = let more = length-unhex letters xs in omega arith
 
+length-two_each : (digit : ℕ → ℕ) (bs : List ℕ) → length (two_each digit bs) ≡ 2 * length bs
+length-two_each digit [] = refl
+length-two_each digit (b ∷ bs) = omega (arith, length-two_each digit bs)
+
 pub length-hex : (bs : List ℕ) → length (hex bs) ≡ 2 * length bs
-length-hex [] = refl
-length-hex (b ∷ bs) = omega (arith, length-hex bs)
+length-hex bs = length-two_each hex_digit bs
 
 -- the digit of a number below 16 has its value
 low_back : (n : ℕ) → n < 16 → low_value (hex_digit n) ≡ Some n
@@ -143,32 +141,65 @@ value_back : (letters : Letters) (n : ℕ) → n < 16 → value_of letters (hex_
 value_back Lower n h = low_back n h
 value_back Either n h = ap (λ o. option_or o (capital_value (hex_digit n))) (low_back n h)
 
--- the two digits of a byte
-module _ (b : ℕ) (byte : b < 256) where
-  high : (letters : Letters) → value_of letters (hex_digit (b / 16)) ≡ Some (b / 16)
-  high letters = value_back letters (b / 16) (omega arith)
+-- the same of capitals, where they are digits
+capital_back : (n : ℕ) → n < 16 → value_of Either (capital_digit n) ≡ Some n
+capital_back n h = ⊎_elim decimal letter (cases_lt n 10)
+  where
+    decimal : n < 10 → value_of Either (capital_digit n) ≡ Some n
+    decimal small =
+        ap (λ t. value_of Either (cond t (48 + n) (65 + (n - 10)))) (lt-ltb n 10 small)
+        ∙ ap (λ t. value_of Either (cond t (48 + n) (97 + (n - 10)))) (sym (lt-ltb n 10 small))
+        ∙ value_back Either n h
 
-  low : (letters : Letters) → value_of letters (hex_digit (b % 16)) ≡ Some (b % 16)
-  low letters = value_back letters (b % 16) (omega arith)
+    letter : 10 ≤ n → value_of Either (capital_digit n) ≡ Some n
+    letter large =
+        let c = 65 + (n - 10) in
+        ap (λ t. value_of Either (cond t (48 + n) c)) (le-ltb n 10 large)
+        ∙ ap₂ (λ t u. option_or (cond (leb 48 c && t) (Some (c - 48)) (cond (u && leb c 102) (Some (c - 97 + 10)) None)) (capital_value c))
+        (lt-leb c 57 (omega arith)) (lt-leb 97 c (omega arith))
+        ∙ ap (λ t. option_or (cond t (Some (c - 48)) None) (capital_value c)) (and_right (leb 48 c) false refl)
+        ∙ ap (λ t. cond t (Some (c - 65 + 10)) None) (and_from (leb 65 c) (leb c 70) (le-leb 65 c (omega arith)) (le-leb c 70 (omega arith)))
+        ∙ ap Some (omega arith)
 
-  pair_back : (letters : Letters) → 16 * value_or_zero letters (hex_digit (b / 16)) + value_or_zero letters (hex_digit (b % 16)) ≡ b
-  pair_back letters = ap₂ (λ x y. 16 * unwrap_or x 0 + unwrap_or y 0) (high letters) (low letters) ∙ omega arith
+-- digits that have the values of their numbers
+module _ (letters : Letters) (digit : ℕ → ℕ) (back : (n : ℕ) → n < 16 → value_of letters (digit n) ≡ Some n) where
+  -- the two digits of a byte
+  module _ (b : ℕ) (byte : b < 256) where
+    high : value_of letters (digit (b / 16)) ≡ Some (b / 16)
+    high = back (b / 16) (omega arith)
 
-  pair_good : (letters : Letters) (place : ℕ) (rest : List ℕ)
-      → bad_digit letters place (hex_digit (b / 16) ∷ hex_digit (b % 16) ∷ rest) ≡ bad_digit letters (place + 1 + 1) rest
-  pair_good letters place rest =
-      ap₂ (λ x y. cond (is_some x) (cond (is_some y) (bad_digit letters (place + 1 + 1) rest) (Some (place + 1))) (Some place)) (high letters) (low letters)
+    low : value_of letters (digit (b % 16)) ≡ Some (b % 16)
+    low = back (b % 16) (omega arith)
+
+    pair_back : 16 * value_or_zero letters (digit (b / 16)) + value_or_zero letters (digit (b % 16)) ≡ b
+    pair_back = ap₂ (λ x y. 16 * unwrap_or x 0 + unwrap_or y 0) high low ∙ omega arith
+
+    pair_good : (place : ℕ) (rest : List ℕ) → bad_from letters place (digit (b / 16) ∷ digit (b % 16) ∷ rest) ≡ bad_from letters (place + 1 + 1) rest
+    pair_good place rest =
+        ap₂ (λ x y. cond (not (is_some x)) (Some place) (cond (not (is_some y)) (Some (place + 1)) (bad_from letters (place + 1 + 1) rest))) high low
+
+  same_bytes : (t : List ℕ) → ((i : ℕ) → get_or t i 0 < 256) → unhex_by letters (two_each digit t) ≡ t
+  same_bytes [] h = refl
+  same_bytes (b ∷ t) h = ap₂ (λ x xs. x ∷ xs) (pair_back b (h 0)) (same_bytes t (λ i. h (suc i)))
+
+  good_digits : (place : ℕ) (t : List ℕ) → ((i : ℕ) → get_or t i 0 < 256) → bad_from letters place (two_each digit t) ≡ None
+  good_digits place [] h = refl
+  good_digits place (b ∷ t) h = pair_good b (h 0) place (two_each digit t) ∙ good_digits (place + 1 + 1) t (λ i. h (suc i))
+
+  sound_digits : (t : List ℕ) → ((i : ℕ) → get_or t i 0 < 256) → bad_hex letters (two_each digit t) ≡ None
+  sound_digits t h =
+      let n = length (two_each digit t) in
+      let even : eqb (n % 2) 1 ≡ false = ne_eqb (n % 2) 1 (λ e. omega (arith, length-two_each digit t)) in
+      by_recursion letters (two_each digit t) ∙ ap₂ (λ o t. option_or o (cond t (Some n) None)) (good_digits 0 t h) even
 
 pub unhex-hex : (letters : Letters) (t : List ℕ) → ((i : ℕ) → get_or t i 0 < 256) → unhex_by letters (hex t) ≡ t
-unhex-hex letters [] h = refl
-unhex-hex letters (b ∷ t) h = ap₂ (λ x xs. x ∷ xs) (pair_back b (h 0) letters) (unhex-hex letters t (λ i. h (suc i)))
-
-good_digits : (letters : Letters) (place : ℕ) (t : List ℕ) → ((i : ℕ) → get_or t i 0 < 256) → bad_digit letters place (hex t) ≡ None
-good_digits letters place [] h = refl
-good_digits letters place (b ∷ t) h = pair_good b (h 0) letters place (hex t) ∙ good_digits letters (place + 1 + 1) t (λ i. h (suc i))
+unhex-hex letters t h = same_bytes letters hex_digit (value_back letters) t h
 
 pub sound-hex : (letters : Letters) (t : List ℕ) → ((i : ℕ) → get_or t i 0 < 256) → bad_hex letters (hex t) ≡ None
-sound-hex letters t h =
-    let n = length (hex t) in
-    let even : eqb (n % 2) 1 ≡ false = ne_eqb (n % 2) 1 (λ e. omega (arith, length-hex t)) in
-    ap₂ (λ o t. option_or o (cond t (Some n) None)) (good_digits letters 0 t h) even
+sound-hex letters t h = sound_digits letters hex_digit (value_back letters) t h
+
+pub unhex-capitals : (t : List ℕ) → ((i : ℕ) → get_or t i 0 < 256) → unhex_by Either (capital_hex t) ≡ t
+unhex-capitals t h = same_bytes Either capital_digit capital_back t h
+
+pub sound-capitals : (t : List ℕ) → ((i : ℕ) → get_or t i 0 < 256) → bad_hex Either (capital_hex t) ≡ None
+sound-capitals t h = sound_digits Either capital_digit capital_back t h

@@ -1,5 +1,5 @@
 -- Hex digits: their values, and what spoils a row of them.
-use Rattle.std.specs.Prelude.{ℕ, ◌+◌, ◌-◌, ◌%◌, Bool, cond, ◌&&◌, List, [], ◌∷◌, length, is_some, Some, None, codes, Option, ◌==◌, nat_le, nat_lt, slice_index}
+use Rattle.std.specs.Prelude.{ℕ, ◌+◌, ◌-◌, ◌%◌, Bool, cond, ◌&&◌, List, length, is_none, Some, None, codes, Option, position, ◌==◌, nat_le, nat_lt, slice_index}
 use Prim.Native.String.{String}
 use Rattle.std.specs.Option.{unwrap_or, option_or}
 use Rattle.digits.specs.declared.single.Letters.{Letters}
@@ -32,18 +32,9 @@ value_of Either c = option_or (low_value c) (capital_value c)
 abbrev pub value_or_zero : Letters → ℕ → ℕ
 value_or_zero letters c = unwrap_or (value_of letters c) 0
 
--- the same where the letters of either case are digits
-abbrev pub digit_value : ℕ → ℕ
-digit_value c = value_or_zero Either c
-
--- the place of the first byte that is no digit; the bytes begin at the given one
-abbrev pub bad_digit : Letters → ℕ → List ℕ → Option ℕ
-bad_digit letters place [] = None
-bad_digit letters place (c ∷ cs) = cond (is_some (value_of letters c)) (bad_digit letters (place + 1) cs) (Some place)
-
 -- what spoils digits, by its place: the first byte that is none, or the end where their count is odd
 abbrev pub bad_hex : Letters → List ℕ → Option ℕ
-bad_hex letters digits = option_or (bad_digit letters 0 digits) (cond (length digits % 2 == 1) (Some (length digits)) None)
+bad_hex letters digits = option_or (position (λ c. is_none (value_of letters c)) digits) (cond (length digits % 2 == 1) (Some (length digits)) None)
 
 -- the lower-case digit of a number below 16
 abbrev pub hex_digit : ℕ → ℕ

@@ -33,7 +33,9 @@ laid [] old = old
 laid (b ∷ bs) [] = []
 laid (b ∷ bs) (o ∷ old) = b ∷ laid bs old
 
--- the digits of bytes are sound, and write those bytes
+-- the digits of bytes are sound, and write those bytes; capitals where the letters of either case are read
 pub record DigitsReadBack : Type 0 where
   pub sound : (letters : Letters) (t : List ℕ) → ((i : ℕ) → slice_index t i < 256) → bad_hex letters (hex t) ≡ None
   pub same : (letters : Letters) (t : List ℕ) → ((i : ℕ) → slice_index t i < 256) → unhex_by letters (hex t) ≡ t
+  pub capitals_sound : (t : List ℕ) → ((i : ℕ) → slice_index t i < 256) → bad_hex Either (capital_hex t) ≡ None
+  pub capitals_same : (t : List ℕ) → ((i : ℕ) → slice_index t i < 256) → unhex_by Either (capital_hex t) ≡ t

@@ -2,7 +2,7 @@
 ghost use Rattle.std.specs.Prelude.{◌≡◌, IfOk};
 ghost use Rattle.digits.specs.Pairs.{unhex_by, unhex, laid, DigitsReadBack};
 
-use crate::single::{Letters, value_by};
+use crate::single::{Letters, value_or_zero};
 use std::alloc::{AllocError, Global};
 
 // Writes the bytes of the digits over the front of a buffer, as many as it has room for. A byte that is no digit counts as 0, and a last digit without a second one as nothing.
@@ -13,11 +13,11 @@ pub fn decode_by(letters: Letters, digits: &[u8], out: &mut [u8])
     let n = pairs.len().min(out.len());
     // Of what an `iter_mut` that is zipped leaves, nothing is known.
     for (i, [high, low]) in pairs[..n].iter().enumerate() {
-        out[i] = 16 * value_by(letters, *high) + value_by(letters, *low);
+        out[i] = 16 * value_or_zero(letters, *high) + value_or_zero(letters, *low);
     }
 }
 
-// The same where the letters of either case are digits. It is public, and stays beside the other.
+// The same where the letters of either case are digits.
 pub fn decode(digits: &[u8], out: &mut [u8])
     ensures { out.new ≡ laid (unhex digits.now) out.old }
 {
@@ -33,7 +33,7 @@ pub fn bytes_by(letters: Letters, heap: Global, digits: &[u8]) -> Result<Vec<u8>
     Ok(bytes)
 }
 
-// The same where the letters of either case are digits. It is public, and stays beside the other.
+// The same where the letters of either case are digits.
 pub fn bytes(heap: Global, digits: &[u8]) -> Result<Vec<u8>, AllocError>
     ensures { IfOk result (λ v. v.items ≡ unhex digits.now) }
 {

@@ -1,5 +1,5 @@
 // The words of a line.
-use wording::{Stop, before};
+use wording::{Stop, run_length};
 
 // A word and the column, from 1, at which it begins.
 #[derive(Clone, Copy)]
@@ -18,7 +18,7 @@ pub struct Words<'a> {
 impl<'a> Words<'a> {
     // The words of a line, up to a `#`.
     pub(crate) fn new(line: &'a [u8]) -> Words<'a> {
-        let end = before(line, Stop::Byte(b'#'));
+        let end = run_length(line, Stop::Byte(b'#'));
         Words {
             rest: &line[..end],
             column: 1,
@@ -35,12 +35,12 @@ impl<'a> Iterator for Words<'a> {
     type Item = Word<'a>;
 
     fn next(&mut self) -> Option<Word<'a>> {
-        let gap = before(self.rest, Stop::Word);
+        let gap = run_length(self.rest, Stop::Word);
         let begun = &self.rest[gap..];
         if begun.is_empty() {
             return None;
         }
-        let (text, rest) = begun.split_at(before(begun, Stop::Blank));
+        let (text, rest) = begun.split_at(run_length(begun, Stop::Blank));
         let column = self.column.saturating_add(gap);
         self.rest = rest;
         self.column = column.saturating_add(text.len());

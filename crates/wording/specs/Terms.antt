@@ -1,27 +1,11 @@
--- The words of a script: hex digits and the names of the kinds.
+-- The words of a script: the names of the kinds, and the bytes that they stand for.
 use Rattle.std.specs.Prelude.{◌≡◌, ℕ, ◌+◌, ◌*◌, cond, ◌&&◌, List, [], ◌∷◌, is_some, Some, None, codes, Option}
 use Rattle.std.specs.Str.{bytes_eq}
 use Rattle.link.specs.declared.kind.Kind.{Kind}
 use Rattle.link.specs.declared.kind.Kind.TheVariants.{PollValue, Alarm, Output, Clock, ZoneName, Heartbeat}
 use Rattle.link.specs.Kinds.{kind_byte}
 use Rattle.digits.specs.declared.single.Letters.TheVariants.{Lower}
-use Rattle.digits.specs.Digits.{value_of, value_or_zero, bad_hex as bad_by}
-use Rattle.digits.specs.Pairs.{unhex_by}
-
--- the digits of a script have lower-case letters
-abbrev pub hex_value : ℕ → Option ℕ
-hex_value c = value_of Lower c
-
-abbrev pub digit_value : ℕ → ℕ
-digit_value c = value_or_zero Lower c
-
--- the bytes that digits write
-abbrev pub unhex : List ℕ → List ℕ
-unhex digits = unhex_by Lower digits
-
--- what spoils hex digits, by its place: the first byte that is none, or the end where their count is odd
-abbrev pub bad_hex : List ℕ → Option ℕ
-bad_hex digits = bad_by Lower digits
+use Rattle.digits.specs.Digits.{value_of, value_or_zero}
 
 abbrev pub name_of : Kind → List ℕ
 name_of PollValue = codes "poll-value"
@@ -34,11 +18,11 @@ name_of Heartbeat = codes "heartbeat"
 abbrev pub kinds : List Kind
 kinds = PollValue ∷ Alarm ∷ Output ∷ Clock ∷ ZoneName ∷ Heartbeat ∷ []
 
--- a byte in two hex digits
+-- a byte in two hex digits with lower-case letters
 abbrev pub two_digits : List ℕ → Option ℕ
 two_digits [] = None
 two_digits (a ∷ []) = None
-two_digits (a ∷ b ∷ []) = cond (is_some (hex_value a) && is_some (hex_value b)) (Some (16 * digit_value a + digit_value b)) None
+two_digits (a ∷ b ∷ []) = cond (is_some (value_of Lower a) && is_some (value_of Lower b)) (Some (16 * value_or_zero Lower a + value_or_zero Lower b)) None
 two_digits (a ∷ b ∷ c ∷ cs) = None
 
 -- the byte of a kind where the word is its name, or else another

@@ -4,5 +4,5 @@
 mod runs;
 mod terms;
 
-pub use runs::{Stop, before};
+pub use runs::{Stop, run_length};
 pub use terms::{bad_place, decode, kind_byte, kind_name, names_read_back};

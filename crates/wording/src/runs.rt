@@ -33,8 +33,8 @@ fn first_stop(text: &[u8], stop: Stop) -> Option<usize>
     text.iter().position(|c| stops(stop, *c))
 }
 
-// The length of the run at the front of a text.
-pub fn before(text: &[u8], stop: Stop) -> usize
+// The length of the run at the front of a text. That it is within the text follows; said here, it saves callers the proof.
+pub fn run_length(text: &[u8], stop: Stop) -> usize
     ensures value { result ≡ run_length stop text.now }
     ensures within { result ≤ length text.now }
 {

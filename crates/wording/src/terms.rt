@@ -2,7 +2,9 @@
 ghost use Rattle.std.specs.Prelude.{◌≡◌, ◌∷◌, [], IfOk};
 ghost use Rattle.std.specs.Str.{bytes_eq};
 ghost use Rattle.std.specs.List.{find};
-ghost use Rattle.wording.specs.Terms.{unhex, bad_hex, name_of, two_digits, byte_named, kinds, NamesReadBack};
+ghost use Rattle.digits.specs.Digits.{bad_hex};
+ghost use Rattle.digits.specs.Pairs.{unhex_by};
+ghost use Rattle.wording.specs.Terms.{name_of, two_digits, byte_named, kinds, NamesReadBack};
 
 use digits::{Letters, bytes_by, hex_value};
 use link::Kind;
@@ -10,14 +12,14 @@ use std::alloc::{AllocError, Global};
 
 // The place, from 0, that spoils the digits: the first byte that is none, or the end where their count is odd.
 pub fn bad_place(digits: &[u8]) -> Option<usize>
-    ensures { result ≡ bad_hex digits.now }
+    ensures { result ≡ bad_hex Letters.Lower digits.now }
 {
     digits::bad_place(Letters::Lower, digits)
 }
 
 // The bytes that pairs of hex digits write; a byte that is no digit counts as 0.
 pub fn decode(heap: Global, digits: &[u8]) -> Result<Vec<u8>, AllocError>
-    ensures { IfOk result (λ v. v.items ≡ unhex digits.now) }
+    ensures { IfOk result (λ v. v.items ≡ unhex_by Letters.Lower digits.now) }
 {
     bytes_by(Letters::Lower, heap, digits)
 }

@@ -49,7 +49,7 @@ impl Buffer {
         }
     }
 
-    // Bytes as hex. Here and below no `write!`: after an error std's clauses say little of what it has written, and what fits is kept.
+    // Bytes as hex.
     pub fn extend_hex(&mut self, bytes: &[u8])
         ensures { held self.new ≡ kept (held self.old) (hex bytes.now) }
     {
