@@ -3,7 +3,7 @@ use std::io;
 use std::io::BufWriter;
 use std::rt::Stdout;
 
-// The runtime, and standard output behind a buffer. It stays in each program that has one: no clause can speak of what a writer has taken.
+// The runtime, and standard output behind a buffer. It stays in each program that has one: of what standard output has taken no clause can speak.
 #[derive(Drop)]
 pub(crate) struct Report<'a> {
     pub(crate) rt: &'a HostRuntime,

@@ -1,2 +1,2 @@
 mod EntryLaws
-mod FeedLaws
+pub mod FeedLaws
