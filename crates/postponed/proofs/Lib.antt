@@ -1,2 +1,4 @@
 pub mod PowerLaws
 pub mod StretchLaws
+mod TurnLaws
+mod ScatterLaws

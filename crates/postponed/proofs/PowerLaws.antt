@@ -1,13 +1,19 @@
--- The rules of the tables of powers and logarithms: tests over a whole table, carried to each entry; the ring of powers; places by logarithms, and the positions among the powers.
-use Rattle.std.proofs.Common.{◌≡◌, ℕ, zero, suc, ◌+◌, ◌*◌, ◌%◌, ◌^◌, ◌<◌, Bool, true, ◌||◌, eqb, ltb, List, length, get_or, sym, refl, ap, ◌∙◌, subst, ⊎_elim, add-one, arith}
+-- The rules of the table of powers: tests over the whole table, carried to each entry; the ring of powers; the positions and their places among the powers.
+use Rattle.std.proofs.Common.{◌≡◌, ℕ, zero, suc, ◌+◌, ◌-◌, ◌*◌, ◌%◌, ◌^◌, ◌<◌, Bool, true, cond, eqb, ltb, List, [], ◌∷◌, length, get_or, sym, refl, ap, ◌∙◌, subst, ⊎_elim, add-one, arith}
 use native.Mathlib.Nat.{pow-succ'}
 use Rattle.std.proofs.lemmas.Nat.{pow-add}
-use Rattle.std.proofs.lemmas.Bool.{cases_lt, eqb-true, ne_eqb, ltb-true}
-use Rattle.duplex.specs.State.{position}
+use Rattle.std.proofs.lemmas.Bool.{cases_lt, eqb-true, ltb-true}
+use Rattle.duplex.specs.State.{position, positions}
+use Rattle.duplex.proofs.StepLaws.{getD_positions}
 use Rattle.duplex.proofs.Tables.{every, every_at, below_at}
 use Rattle.words.specs.Packing.{place_by}
-use Rattle.words.proofs.ModLaws.{cut_right}
-use Rattle.postponed.specs.Powers.{IsPowers, power_of_12, powers_of_12, place_of, logarithms_of_12}
+use Rattle.words.proofs.ModLaws.{cut_left, cut_right}
+use Rattle.postponed.specs.Powers.{IsPowers, power_of_12, powers_of_12}
+
+-- where a number first stands in a list
+abbrev place_of : ℕ → List ℕ → ℕ
+place_of x [] = 0
+place_of x (y ∷ ys) = cond (eqb x y) 0 (suc (place_of x ys))
 
 -- the entry after x, the table taken as a ring, is 12 times x
 abbrev leads : List ℕ → ℕ → ℕ → Bool
@@ -69,21 +75,37 @@ next-count n = sym (turned (n + 1) ∙ ap (λ x. x % 257) (ap (λ m. 12 ^ m) (ad
 abbrev positive : ℕ → ℕ → Bool
 positive n x = ltb 0 x
 
-pub power_positive : (n : ℕ) → n < 256 → 0 < power_of_12 n
+power_positive : (n : ℕ) → n < 256 → 0 < power_of_12 n
 unfolding powers_of_12
 power_positive n h = subst (λ x. 0 < x) (getD_powers n h) (ltb-true 0 _ (every_at positive powers_of_12 refl n h))
 
--- the place of a position, by a logarithm of it
-pub place_logarithm : (n l j : ℕ) → power_of_12 l ≡ position j → power_of_12 ((n + l) % 256) ≡ place_by (12 ^ n) j
-place_logarithm n l j e =
-    turned (n + l) ∙ (ap (λ x. x % 257) (pow-add 12 n l) ∙ (sym (cut_right (12 ^ n) (12 ^ l)) ∙ ap (λ x. 12 ^ n * x % 257) e))
+pub power_more : (m : ℕ) → 0 < power_of_12 m
+power_more m = subst (λ x. 0 < x) (turned m) (power_positive (m % 256) (omega arith))
 
--- a power of 12 undoes a logarithm
-abbrev undoes : ℕ → ℕ → Bool
-undoes p l = eqb p 0 || eqb (power_of_12 l) p
+-- position j is 12 to the power 4 j
+position_power : (j : ℕ) → position j ≡ power_of_12 (4 * j)
+unfolding position
+position_power zero = refl
+position_power (suc j) =
+    let e : 4 + 4 * j ≡ 4 * suc j = omega arith in
+    ap (λ n. n % 257) (pow-succ' 176 j)
+    ∙ (sym (cut_right 176 (176 ^ j)) ∙ (ap (λ n. 176 * n % 257) (position_power j) ∙ (cut_right 176 (12 ^ (4 * j))
+    ∙ (cut_left (12 ^ 4) (12 ^ (4 * j)) ∙ ap (λ n. n % 257) (sym (pow-add 12 4 (4 * j)) ∙ ap (λ n. 12 ^ n) e)))))
 
-pub logarithm_undone : (p : ℕ) → 0 < p → p < 257 → power_of_12 (get_or logarithms_of_12 p 0) ≡ p
-unfolding powers_of_12 logarithms_of_12
-logarithm_undone p more h =
-    let tested : undoes p (get_or logarithms_of_12 p 0) ≡ true = every_at undoes logarithms_of_12 refl p h in
-    eqb-true _ _ (ap (λ b. b || eqb (power_of_12 (get_or logarithms_of_12 p 0)) p) (sym (ne_eqb p 0 (λ e. omega arith))) ∙ tested)
+-- so its place is a power of 12
+pub place_power : (n j : ℕ) → place_by (12 ^ n) j ≡ power_of_12 (n + 4 * j)
+place_power n j =
+    ap (λ p. 12 ^ n * p % 257) (position_power j) ∙ (cut_right (12 ^ n) (12 ^ (4 * j)) ∙ ap (λ x. x % 257) (sym (pow-add 12 n (4 * j))))
+
+-- the product of a power and of an entry of the table of positions
+pub place_product : (n j i c r : ℕ) (t : List ℕ) → t ≡ positions → r ≡ c * get_or t i 0 % 257 → c ≡ power_of_12 n → i ≡ j → j < 33 → r ≡ place_by (12 ^ n) j
+place_product n j i c r t table product power same h =
+    let entry : get_or t i 0 ≡ position j = ap (λ k. get_or t k 0) same ∙ (ap (λ u. get_or u j 0) table ∙ getD_positions j h) in
+    product ∙ (ap (λ x. x * get_or t i 0 % 257) power ∙ (cut_left (12 ^ n) (get_or t i 0) ∙ ap (λ p. 12 ^ n * p % 257) entry))
+
+-- and 128 powers on is the place opposite to it
+pub opposite_power : (m : ℕ) → power_of_12 (m + 128) ≡ 257 - power_of_12 m
+opposite_power m =
+    let p = power_of_12 m in
+    let twice : p * 256 % 257 ≡ 257 - p = omega (arith, power_more m) in
+    ap (λ x. x % 257) (pow-add 12 m 128) ∙ (sym (cut_right (12 ^ m) (12 ^ 128)) ∙ (sym (cut_left (12 ^ m) 256) ∙ twice))

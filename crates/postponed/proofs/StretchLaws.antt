@@ -9,7 +9,7 @@ use Rattle.duplex.specs.State.{at, chi_rule, theta_rule, chi, theta, iota, pi, r
 use Rattle.duplex.proofs.StateLaws.{at_state, state_ext, getD_state, length-state, state_all}
 use Rattle.words.specs.Packing.{stretch, mixed, chi_by, theta_by, round_by, place_by, inject_by}
 use Rattle.words.proofs.ModLaws.{cut_left, cut_right}
-use Rattle.words.proofs.FactorLaws.{add_bits_ext}
+use Rattle.words.proofs.AddLaws.{add_bits-same}
 use Rattle.words.proofs.StretchLaws.{at_mod, at_stretch, stretch-cut}
 
 -- bit i + d of the stretched state
@@ -120,7 +120,7 @@ step-stretch c s x iv =
 
 inject-cut : (c : ℕ) (s : List ℕ) (x : ℕ) → inject_by (c % 257) s x ≡ inject_by c s x
 unfolding inject_by
-inject-cut c s x = add_bits_ext (place_by (c % 257)) (place_by c) (λ j. cut_left c (position j)) x (range_with_len 0 33) s
+inject-cut c s x = add_bits-same (place_by (c % 257)) (place_by c) x x 33 0 0 s (λ i h. cut_left c (position (0 + i))) (λ i h. refl)
 
 -- a step at a factor that is c modulo 257, the next factor being 12 times it modulo 257
 pub step_stretched : (k c k' : ℕ) (s : List ℕ) (x : ℕ) → Invertible k → c ≡ k % 257 → 12 * k % 257 ≡ k' % 257

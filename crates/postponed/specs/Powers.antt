@@ -1,5 +1,5 @@
--- The powers of 12 modulo 257, their table and that of the logarithms.
-use Rattle.std.specs.Prelude.{◌≡◌, ℕ, suc, ◌+◌, ◌*◌, ◌%◌, ◌^◌, ◌<◌, cond, List, [], ◌∷◌, map, length, ◌==◌, slice_index, slice_index_or}
+-- The powers of 12 modulo 257, and their table.
+use Rattle.std.specs.Prelude.{◌≡◌, ℕ, ◌+◌, ◌*◌, ◌%◌, ◌^◌, ◌<◌, List, map, length, slice_index, slice_index_or}
 use Rattle.std.specs.List.{range_with_len}
 
 abbrev pub power_of_12 : ℕ → ℕ
@@ -15,12 +15,3 @@ pub record IsPowers (t : List ℕ) : Type 0 where
   pub next : (n : ℕ) → n < 255 → slice_index t (n + 1) ≡ 12 * slice_index t n % 257
   pub apart : (m n : ℕ) → m < 256 → n < 256 → slice_index t m ≡ slice_index t n → m ≡ n
   pub back : 12 * slice_index t 255 % 257 ≡ 1
-
--- where a number first stands in a list
-abbrev pub place_of : ℕ → List ℕ → ℕ
-place_of x [] = 0
-place_of x (y ∷ ys) = cond (x == y) 0 (suc (place_of x ys))
-
--- the logarithms of 1 to 256, behind an entry for 0 that has no meaning
-unfoldable pub logarithms_of_12 : List ℕ
-logarithms_of_12 = 0 ∷ map (λ p. place_of p powers_of_12) (range_with_len 1 256)

@@ -2,7 +2,6 @@
 ghost use Rattle.std.specs.Prelude.{◌≡◌, ◌+◌, ◌%◌, ◌^◌, ◌<◌};
 ghost use Rattle.postponed.specs.Powers.{power_of_12};
 
-use crate::logarithm::logarithms;
 use crate::table::powers;
 use duplex::positions;
 use words::{Places, PositionIndex, Residue};
@@ -36,13 +35,10 @@ impl Count {
 impl Places for Count {
     ghost factor = { λ e. 12 ^ e.value };
 
-    // A product of powers is the power of a sum.
+    #[inline(always)]
     fn place(&self, index: PositionIndex) -> Residue {
-        let position = positions()[index.number];
-        let logarithm = u32::from(logarithms()[position as usize]);
-        let sum = Count {
-            value: (self.value + logarithm) % 256,
-        };
-        sum.power()
+        self.power().times(Residue {
+            value: positions()[index.number],
+        })
     }
 }

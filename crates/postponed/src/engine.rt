@@ -40,13 +40,13 @@ impl Engine for Postponed {
     {
         let mut words = self.words.round_by(self.count.power());
         let count = self.count.next();
-        words.inject_by(block, &count);
+        count.inject(&mut words, block);
         self.words = words;
         self.count = count;
     }
 
     fn read(&self) -> u32 {
-        self.words.read_by(&self.count)
+        self.count.read(&self.words)
     }
 
     fn copy(&self) -> Postponed

@@ -4,9 +4,8 @@
 mod bytes;
 mod count;
 mod engine;
-mod logarithm;
 mod table;
+mod transfer;
 
 pub use engine::Postponed;
-pub use logarithm::logarithms;
 pub use table::powers;

@@ -4,5 +4,6 @@ pub mod WordLaws
 pub mod RowLaws
 pub mod FactorLaws
 pub mod ReadLaws
+pub mod AddLaws
 pub mod ByteLaws
 pub mod StretchLaws

@@ -51,9 +51,9 @@ carry_zero a b = or_first a _ 0 _ refl (shl_low b 1 32 0 (omega arith) (omega ar
 carry_more : (a b p q : ℕ) → a < 2 → 1 + q ≡ p → p < 32 → bit (bit_or a (b * 2 ^ 1 % 2 ^ 32)) p ≡ bit b q
 carry_more a b p q h e l = or_second a _ p _ (bit_past a p (omega (arith, pow_mono {i = 1} {j = p} (omega arith)))) (shl_high b 1 32 p q e l)
 
--- nine words, and then the first n of them moved up by one place over the last bit
+-- the first n of nine words, and the first n of them moved up by one place over the last bit
 pub record Laid (w row : List ℕ) (n : ℕ) : Type 0 where
-  pub low : (k : ℕ) → k < 8 → get_or row k 0 ≡ get_or w k 0
+  pub low : (k : ℕ) → k < n → k < 8 → get_or row k 0 ≡ get_or w k 0
   pub seam : get_or row 8 0 ≡ bit_or (get_or w 8 0) (get_or w 0 0 * 2 ^ 1 % 2 ^ 32)
   pub high : (m : ℕ) → m < n → get_or row (9 + m) 0 ≡ bit_or (get_or w m 0 / 2 ^ 31) (get_or w (m + 1) 0 * 2 ^ 1 % 2 ^ 32)
   pub fits : (m : ℕ) → m < n → get_or w m 0 < 2 ^ 32
@@ -63,7 +63,7 @@ laid_bit : (w row : List ℕ) (n : ℕ) → 8 ≤ n → get_or w 8 0 < 2 → Lai
 laid_bit w row n all spare is j h =
     ⊎_elim
     (λ l. let e : j ≡ j % 257 = omega arith in
-    ap (λ n. bit n (j % 32)) (is.low (j / 32) (omega arith)) ∙ ap (word_bit w) e)
+    ap (λ n. bit n (j % 32)) (is.low (j / 32) (omega arith) (omega arith)) ∙ ap (word_bit w) e)
     (λ l. ⊎_elim
     (λ k8. ap (λ n. bit (get_or row n 0) (j % 32)) k8 ∙ (ap (λ n. bit n (j % 32)) is.seam ∙ ⊎_elim
     (λ p0. let e : j % 257 ≡ 256 = omega arith in

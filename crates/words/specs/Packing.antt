@@ -1,7 +1,7 @@
 -- The state packed into words of 32 bits, and its steps with every distance and position taken times c.
-use Rattle.std.specs.Prelude.{ℕ, ◌+◌, ◌*◌, ◌/◌, ◌%◌, List, slice_index}
+use Rattle.std.specs.Prelude.{ℕ, ◌+◌, ◌*◌, ◌/◌, ◌%◌, List, map, slice_index}
 use Rattle.std.specs.List.{range_with_len}
-use Rattle.duplex.specs.State.{at, state, chi_rule, theta_rule, iota, bit, add_bits, position}
+use Rattle.duplex.specs.State.{at, state, chi_rule, theta_rule, iota, bit, add_bits, number, position}
 
 -- bit i of a row of words: place i mod 32 of word i div 32
 abbrev pub word_bit : List ℕ → ℕ → ℕ
@@ -37,6 +37,14 @@ round_by c s = theta_by c (iota (chi_by c s))
 abbrev pub place_by : ℕ → ℕ → ℕ
 place_by c j = c * position j % 257
 
--- bit j of x added at c times position j
+-- bit j of x added at c times position j, for j from 0 to 32
 unfoldable pub inject_by : ℕ → List ℕ → ℕ → List ℕ
 inject_by c s x = add_bits (place_by c) x s (range_with_len 0 33)
+
+-- the same for j from 0 to 31
+unfoldable pub add_word_by : ℕ → List ℕ → ℕ → List ℕ
+add_word_by c s x = add_bits (place_by c) x s (range_with_len 0 32)
+
+-- the number whose n bits, lowest first, are f a, f (a + 1) and so on
+abbrev pub number_from : (ℕ → ℕ) → ℕ → ℕ → ℕ
+number_from f a n = number (map f (range_with_len a n))

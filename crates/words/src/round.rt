@@ -1,6 +1,6 @@
 // The round on packed bits, with every distance times c.
-ghost use Rattle.std.specs.Prelude.{◌≡◌, ℕ, ◌+◌, ◌*◌, ◌%◌, ◌<◌};
-ghost use Rattle.duplex.specs.State.{at, bit, pi};
+ghost use Rattle.std.specs.Prelude.{◌≡◌, ℕ, ◌<◌};
+ghost use Rattle.duplex.specs.State.{bit, pi};
 ghost use Rattle.words.specs.Packing.{state_of_words, stretch, mixed, round_by};
 ghost use Rattle.duplex.specs.State.{chi_rule, theta_rule};
 
@@ -56,6 +56,7 @@ impl Words {
     }
 
     // chi, iota and theta: distances c and 2 c, and then 3 c and 8 c.
+    #[inline(always)]
     pub fn round_by(&self, c: Residue) -> Words
         ensures { state_of_words result.array ≡ round_by c.value (state_of_words self.now.array) }
     {
@@ -75,28 +76,15 @@ impl Words {
     pub fn stretch_by(&self, c: Residue) -> Words
         ensures { state_of_words result.array ≡ stretch c.value (state_of_words self.now.array) }
     {
+        let row = Doubled::new(self);
         let mut array = [0u32; 9];
         let mut from = Residue { value: 0 };
         for k in 0..8 {
-            let (word, next) = self.gather(from, c);
+            let (word, next) = row.gather(from, c);
             array[k] = word;
             from = next;
         }
         array[8] = self.bit(from);
         Words { array }
-    }
-
-    // A word of 32 bits, the first from a place and each next from c further on; and the place after the last.
-    fn gather(&self, start: Residue, c: Residue) -> (u32, Residue)
-        ensures bits { (j : ℕ) → j < 32 → bit result.0 j ≡ at (state_of_words self.now.array) (start.value + c.value * j) }
-        ensures next { result.1.value ≡ (start.value + c.value * 32) % 257 }
-    {
-        let mut word = 0u32;
-        let mut from = start;
-        for j in 0..32u32 {
-            word |= self.bit(from) << j;
-            from = from.plus(c);
-        }
-        (word, from)
     }
 }

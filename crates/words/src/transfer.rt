@@ -1,7 +1,10 @@
-// A block goes in and a word comes out, at the places where the 33 positions stand.
-ghost use Rattle.std.specs.Prelude.{◌≡◌, ℕ, ◌<◌};
-ghost use Rattle.duplex.specs.State.{reading};
-ghost use Rattle.words.specs.Packing.{state_of_words, stretch, place_by, inject_by};
+// A block goes in and a word comes out, at the places where the 33 positions stand. The loops have
+// eight turns and everything is inlined, so LLVM unrolls them; a place that the caller fixes is then
+// a constant, and so are its index, its shift and its mask.
+ghost use Rattle.std.specs.Prelude.{◌≡◌, ℕ, ◌<◌, ◌≤◌};
+ghost use Rattle.std.specs.List.{range_with_len};
+ghost use Rattle.duplex.specs.State.{bit, add_at, add_bits, read_bit, reading};
+ghost use Rattle.words.specs.Packing.{state_of_words, stretch, place_by, inject_by, add_word_by, number_from};
 
 use crate::residue::Residue;
 use crate::vector::Words;
@@ -23,32 +26,97 @@ pub trait Places {
 }
 
 impl Words {
-    // Adds bit j of the block at the place of position j, for the lowest 33 bits. It stops past the highest bit that is set, which in a padded block is the 1 after its bytes: how many turns there are depends on the block's length alone.
+    /// Adds bit j of the block at the place of position j, for the lowest 33 bits. It stops after the
+    /// first bit, or after the ninth, where the rest of the number is 0. Among padded blocks these are
+    /// the empty one and those of one byte.
+    #[inline(always)]
     pub fn inject_by<P: Places>(&mut self, block: u64, places: &P)
         ensures { state_of_words self.new.array ≡ inject_by (P.Places.factor places.now) (state_of_words self.old.array) block }
     {
-        for j in 0..33 {
-            let rest = block >> j;
-            if rest == 0 {
-                return;
-            }
-            let place = places.place(PositionIndex { number: j });
-            self.add_bit(place, (rest & 1) as u32);
+        self.add_one(block, 0, places);
+        if block < 2 {
+            return;
+        }
+        self.add_eight(block, 1, places);
+        if block < 0x200 {
+            return;
+        }
+        self.add_eight(block, 9, places);
+        self.add_eight(block, 17, places);
+        self.add_eight(block, 25, places);
+    }
+
+    /// Adds bit j of x at the place of position j, for the lowest 32 bits.
+    #[inline(always)]
+    pub fn add_word_by<P: Places>(&mut self, x: u64, places: &P)
+        ensures { let s = state_of_words self.old.array in
+            state_of_words self.new.array ≡ add_word_by (P.Places.factor places.now) s x }
+    {
+        self.add_eight(x, 0, places);
+        self.add_eight(x, 8, places);
+        self.add_eight(x, 16, places);
+        self.add_eight(x, 24, places);
+    }
+
+    // Adds eight bits of x, from bit j on.
+    #[inline(always)]
+    fn add_eight<P: Places>(&mut self, x: u64, j: usize, places: &P)
+        requires { j ≤ 25 }
+        ensures { let s = state_of_words self.old.array in
+            let place = place_by (P.Places.factor places.now) in
+            state_of_words self.new.array ≡ add_bits place x s (range_with_len j 8) }
+    {
+        for k in 0..8 {
+            self.add_one(x, j + k, places);
         }
     }
 
-    // Bit j is the sum of the bits at the place of position j and opposite to it. The highest comes first.
+    #[inline(always)]
+    fn add_one<P: Places>(&mut self, x: u64, j: usize, places: &P)
+        requires { j < 33 }
+        ensures { let s = state_of_words self.old.array in
+            let place = place_by (P.Places.factor places.now) j in
+            state_of_words self.new.array ≡ add_at s place (bit x j) }
+    {
+        let place = places.place(PositionIndex { number: j });
+        self.add_bit(place, ((x >> j) & 1) as u32);
+    }
+
+    /// Bit j of the word is the sum of the bits at the place of position j and opposite to it.
+    #[inline(always)]
     pub fn read_by<P: Places>(&self, places: &P) -> u32
         ensures { result ≡ reading (stretch (P.Places.factor places.now) (state_of_words self.now.array)) }
     {
-        let mut out = 0u32;
-        for j in (0..32).rev() {
-            let place = places.place(PositionIndex { number: j });
-            let mirror = Residue {
-                value: 257 - place.value,
-            };
-            out = 2 * out + (self.bit(place) ^ self.bit(mirror));
+        self.read_eight(0, places)
+            | (self.read_eight(8, places) << 8)
+            | (self.read_eight(16, places) << 16)
+            | (self.read_eight(24, places) << 24)
+    }
+
+    // Reads eight bits of the word, from bit j on; the highest comes first.
+    #[inline(always)]
+    fn read_eight<P: Places>(&self, j: usize, places: &P) -> u32
+        requires { j ≤ 24 }
+        ensures { let s = state_of_words self.now.array in
+            result ≡ number_from (read_bit (stretch (P.Places.factor places.now) s)) j 8 }
+    {
+        let mut out = 0;
+        for k in (0..8).rev() {
+            out = self.read_one(j + k, places) | (out << 1);
         }
         out
+    }
+
+    #[inline(always)]
+    fn read_one<P: Places>(&self, j: usize, places: &P) -> u32
+        requires { j < 32 }
+        ensures { let s = state_of_words self.now.array in
+            result ≡ read_bit (stretch (P.Places.factor places.now) s) j }
+    {
+        let place = places.place(PositionIndex { number: j });
+        let mirror = Residue {
+            value: 257 - place.value,
+        };
+        self.bit(place) ^ self.bit(mirror)
     }
 }

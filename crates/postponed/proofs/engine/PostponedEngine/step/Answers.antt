@@ -12,7 +12,7 @@ returns c =
     let n = e.count.value in
     let n' = c.next-count.result.value in
     let x = c.args.block in
-    let moved = c.inject_by.ensures ∙ ap (λ t. inject_by (12 ^ n') t x) c.round_by-words.ensures in
+    let moved = c.inject.ensures ∙ ap (λ t. inject_by (12 ^ n') t x) c.round_by-words.ensures in
     record {
       means =
           ap (stretch (12 ^ n')) moved

@@ -1,30 +1,29 @@
--- Each turn adds one bit at the place of its position.
-use Rattle.std.proofs.Common.{◌≡◌, ◌+◌, ◌-◌, ◌/◌, ◌%◌, ◌^◌, sym, refl, ap, ◌∙◌, arith}
-use lib.Bits.{bit_and}
-use Rattle.std.specs.List.{range_with_len}
-use Rattle.std.proofs.lemmas.Nat.{and_mask}
-use Rattle.duplex.specs.State.{bit, add_at, add_bits}
-use Rattle.duplex.proofs.StepLaws.{add_bits_more, add_bits_none}
+-- One bit and lots of eight, one after the other; of a short block no bit is left for the later ones.
+use Rattle.std.proofs.Common.{sym, ◌∙◌, arith}
+use Rattle.std.proofs.Math.Nat.{div-eq_of_lt}
 use Rattle.words.specs.Packing.{state_of_words, place_by, inject_by}
+use Rattle.words.proofs.AddLaws.{added_more, add_bits-all}
 use Rattle.words.proofs.vector.Words.inject_by.Goals as goal
 
-pub loop-j-init : goal.loop-j-init
+pub returns-then-block-lt2 : goal.returns-then-block-lt2
 unfolding inject_by
-loop-j-init g c = refl
-
-pub loop-j-preserved : goal.loop-j-preserved
-loop-j-preserved g c =
-    let s = state_of_words c.loop-j.self.array in
-    let p = place_by (g.P.Places.factor c.args.places.now) in
+returns-then-block-lt2 g c =
     let x = c.args.block in
-    let j = c.loop-j.j in
-    let low : bit_and (x / 2 ^ j) 1 % 2 ≡ bit x j = ap (λ n. n % 2) (and_mask (x / 2 ^ j) 1) ∙ omega arith in
-    ap (λ t. add_bits p x t (range_with_len (j + 1) (33 - (j + 1))))
-    (c.add_bit.ensures ∙ (ap (λ n. add_at s n (bit_and (x / 2 ^ j) 1 % 2)) c.place-place.ensures.value ∙ ap (add_at s (p j)) low))
-    ∙ (sym (add_bits_more p x s j c.loop-j-test.true) ∙ c.loop-j.invariant)
-
-pub returns-then-rest-eq0 : goal.returns-then-rest-eq0
-returns-then-rest-eq0 g c =
     let p = place_by (g.P.Places.factor c.args.places.now) in
-    let j = c.loop-j.j in
-    sym (add_bits_none p c.args.block (state_of_words c.loop-j.self.array) (33 - j) j c.if-rest-eq0.true) ∙ c.loop-j.invariant
+    c.add_one.ensures ∙ sym (add_bits-all p x 1 32 0 (state_of_words c.args.self.now.array) (div-eq_of_lt (omega (arith, c.if-block-lt2.true))))
+
+pub returns-then-block-lt512 : goal.returns-then-block-lt512
+unfolding inject_by
+returns-then-block-lt512 g c =
+    let x = c.args.block in
+    let p = place_by (g.P.Places.factor c.args.places.now) in
+    added_more p x 1 8 0 _ _ _ c.add_one.ensures c.add_eight.ensures
+    ∙ sym (add_bits-all p x 9 24 0 (state_of_words c.args.self.now.array) (div-eq_of_lt (omega (arith, c.if-block-lt512.true))))
+
+pub returns : goal.returns
+unfolding inject_by
+returns g c =
+    let x = c.args.block in
+    let p = place_by (g.P.Places.factor c.args.places.now) in
+    added_more p x 25 8 0 _ _ _ (added_more p x 17 8 0 _ _ _ (added_more p x 9 8 0 _ _ _
+    (added_more p x 1 8 0 _ _ _ c.add_one.ensures c.add_eight.ensures) c.add_eight-2.ensures) c.add_eight-3.ensures) c.add_eight-4.ensures
