@@ -1,4 +1,4 @@
--- Bits added in another order, and those of a block turned around and added at the fixed places.
+-- A row of 64 bits added at its 64 places, and a block's bits rotated in such a row.
 use Rattle.std.proofs.Common.{◌≡◌, ℕ, ◌+◌, ◌-◌, ◌*◌, ◌/◌, ◌%◌, ◌^◌, ◌<◌, List, sym, refl, ap, ◌∙◌, ⊎_elim, arith}
 use lib.Bits.{bit_or}
 use Rattle.std.proofs.Math.Nat.{mod-lt, div-eq_of_lt}

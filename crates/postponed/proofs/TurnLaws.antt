@@ -1,4 +1,4 @@
--- A number turned around, bit by bit; and a reading at a count, which is the one at the count's remainder modulo 4, turned.
+-- A number rotated, bit by bit; and a reading at a count, which is that at the count's remainder modulo 4, rotated.
 use Rattle.std.proofs.Common.{◌≡◌, ℕ, zero, suc, ◌+◌, ◌-◌, ◌*◌, ◌/◌, ◌%◌, ◌^◌, ◌<◌, ◌≤◌, List, sym, ap, ◌∙◌, ⊎_elim, zero-add, arith, pow_mono}
 use lib.Bits.{bit_or, bit_xor, or_self, or_lt, or_comm, xor_comm}
 use Rattle.std.proofs.Math.Nat.{mod_self, mod-eq_of_lt, mod-lt, div-le_self}

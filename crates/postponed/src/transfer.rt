@@ -1,7 +1,8 @@
-// A block goes in and a word comes out. Position j is 12 to the power 4 j, and 12 to the power 128
-// is −1. So at the count r + 4 q, with r below 4, position j stands where position q + j would stand
-// at the count r; past position 31 the same places follow again, each opposite. The places at the
-// four counts below 4 are therefore the only ones, always in the same order, with another start.
+// A block goes in and a word comes out. Modulo 257, position j is 12 to the power 4 j, and 12 to
+// the power 128 is −1. So at the count r + 4 q, with r below 4, position j stands where position
+// q + j would stand at the count r; from position 32 on the same places come again, each opposite.
+// Every place is therefore that of one of positions 0 to 31 at one of the four counts below 4, or
+// opposite to such a place. The order is always the same, and only the start differs.
 ghost use Rattle.std.specs.Prelude.{◌≡◌, ◌^◌, ◌<◌};
 ghost use Rattle.duplex.specs.State.{reading};
 ghost use Rattle.words.specs.Packing.{state_of_words, stretch, inject_by};
@@ -19,8 +20,8 @@ impl Count {
     }
 
     /// Adds the lowest 33 bits of the block where the positions stand at this count. Numbers below
-    /// 0x200, which are the padded blocks of at most one byte, go bit by bit, which is shorter for
-    /// them; larger ones go as a turned row.
+    /// 0x200, among them the padded blocks of at most one byte, are added bit by bit, since that
+    /// takes fewer instructions; larger ones are added as a rotated row.
     pub fn inject(self, words: &mut Words, block: u64)
         ensures { let s = state_of_words words.old.array in
             state_of_words words.new.array ≡ inject_by (12 ^ self.value) s block }
@@ -34,7 +35,8 @@ impl Count {
     }
 }
 
-// A branch for each remainder modulo 4 makes its places constants.
+// Each remainder has a branch of its own, with the count as a literal, so that all places can be
+// constants.
 #[inline(always)]
 fn read_at(words: &Words, remainder: u32) -> u32
     requires { remainder < 4 }

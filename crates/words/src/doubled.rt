@@ -1,5 +1,5 @@
-// A row of 18 words that has the 257 bits twice, one copy after the other. From it a rotation by any
-// distance is nine shifted reads, and bits that stand at any distance are gathered into words.
+// A row of 18 words that has the 257 bits twice, one copy after the other. From it a rotation by
+// any distance is nine shifted reads, and bits at any distance are gathered into words.
 ghost use Rattle.std.specs.Prelude.{◌≡◌, ℕ, ◌+◌, ◌*◌, ◌%◌, ◌<◌, ◌≤◌, length};
 ghost use Rattle.duplex.specs.State.{at};
 ghost use Rattle.words.specs.Packing.{word_bit, state_of_words, rotated, number_from};
@@ -24,7 +24,7 @@ impl Doubled {
         let mut array = [0u32; 18];
         array[8] = w[8] | (w[0] << 1);
         // By numbers: of what an `iter_mut` that is zipped with windows leaves, nothing is known.
-        // And word by word: `copy_from_slice` first tests whether the two overlap.
+        // And word by word: `copy_from_slice` first tests whether its slices overlap.
         for m in 0..8 {
             array[m] = w[m];
             array[9 + m] = (w[m] >> 31) | (w[m + 1] << 1);
@@ -47,9 +47,9 @@ impl Doubled {
         Words { array }
     }
 
-    // A word of 32 bits, the first from the start and each next from c further on; and the place
-    // after the last. Only every fourth place is reduced modulo 257: the row reaches far enough for
-    // the three that follow it.
+    // A word of 32 bits, from `start` and from each c places further on; and the place after the
+    // last. Only every fourth place is reduced modulo 257: c, 2 c and 3 c are reduced, so the row
+    // reaches far enough for the three that follow.
     pub(crate) fn gather(&self, start: Residue, c: Residue) -> (u32, Residue)
         ensures bits { let s = state_of_words self.now.array in
             result.0 ≡ number_from (λ i. at s (start.value + c.value * i)) 0 32 }

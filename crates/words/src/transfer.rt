@@ -1,6 +1,6 @@
 // A block goes in and a word comes out, at the places where the 33 positions stand. The loops have
-// eight turns and everything is inlined, so LLVM unrolls them; a place that the caller fixes is then
-// a constant, and so are its index, its shift and its mask.
+// eight turns and everything is inlined, so that the kit's LLVM unrolls them; a place that the
+// caller fixes is then a constant, and so are its index, its shift and its mask.
 ghost use Rattle.std.specs.Prelude.{◌≡◌, ℕ, ◌<◌, ◌≤◌};
 ghost use Rattle.std.specs.List.{range_with_len};
 ghost use Rattle.duplex.specs.State.{bit, add_at, add_bits, read_bit, reading};
@@ -26,9 +26,9 @@ pub trait Places {
 }
 
 impl Words {
-    /// Adds bit j of the block at the place of position j, for the lowest 33 bits. It stops after the
-    /// first bit, or after the ninth, where the rest of the number is 0. Among padded blocks these are
-    /// the empty one and those of one byte.
+    /// Adds bit j of the block at the place of position j, for j from 0 to 32. It stops after the
+    /// first bit, or after the ninth, where the rest of the number is 0: among padded blocks, for
+    /// the empty one and for those of one byte.
     #[inline(always)]
     pub fn inject_by<P: Places>(&mut self, block: u64, places: &P)
         ensures { state_of_words self.new.array ≡ inject_by (P.Places.factor places.now) (state_of_words self.old.array) block }
@@ -46,7 +46,7 @@ impl Words {
         self.add_eight(block, 25, places);
     }
 
-    /// Adds bit j of x at the place of position j, for the lowest 32 bits.
+    /// Adds bit j of x at the place of position j, for j from 0 to 31.
     #[inline(always)]
     pub fn add_word_by<P: Places>(&mut self, x: u64, places: &P)
         ensures { let s = state_of_words self.old.array in
