@@ -6,7 +6,7 @@ use cli::EngineName;
 use console::run_script;
 use plain::Plain;
 use postponed::Postponed;
-use std::io::{BufReader, BufWriter};
+use std::io::BufWriter;
 use std::{env, io};
 use words::Packed;
 
@@ -25,7 +25,7 @@ A line that is no command prints '? NUMBER LINE COLUMN' and changes nothing. doc
 
 // A closure cannot be generic over the engine, and a trait with an impl in each program would be longer than the three arms.
 fn run_on(rt: &HostRuntime, engine: EngineName) -> io::Result<()> {
-    let input = BufReader::new(rt.alloc(), rt.stdin())?;
+    let input = rt.stdin();
     let mut output = BufWriter::new(rt.alloc(), rt.stdout())?;
     match engine {
         EngineName::Plain => run_script::<Plain, _, _>(input, &mut output),

@@ -37,14 +37,9 @@ impl Strings {
             start: self.buffer.len(),
             length: digits.len() / 2,
         };
-        push_argument(&mut self.buffer, digits, digits)?;
+        hex::push_bytes(&mut self.buffer, digits).map_err(|error| anyhow!("{digits}: {error}"))?;
         Ok(self.entries.push(entry)?)
     }
-}
-
-// Appends the bytes of an argument; `what` names it where it is no hex.
-fn push_argument(bytes: &mut Vec<u8>, what: &str, digits: &str) -> anyhow::Result<()> {
-    hex::push_bytes(bytes, digits).map_err(|error| anyhow!("{what}: {error}"))
 }
 
 // As many zeros as the next argument says.
@@ -73,9 +68,7 @@ impl Report<'_> {
                 .next()
                 .ok_or_else(|| anyhow!("KEY: standard input is empty"))??;
         }
-        let mut key = Vec::new(heap);
-        push_argument(&mut key, "KEY", digits.as_str())?;
-        Ok(key)
+        hex::bytes_of(heap, digits.as_str()).map_err(|error| anyhow!("KEY: {error}"))
     }
 
     fn print_bytes(&mut self, bytes: &[u8]) -> anyhow::Result<()> {

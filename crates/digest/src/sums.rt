@@ -14,8 +14,7 @@ fn parse_line<'a>(rt: &HostRuntime, line: &'a str) -> anyhow::Result<(Vec<u8>, &
     let (digits, name) = line
         .split_once("  ")
         .ok_or_else(|| anyhow!("no digest, two blanks and a name"))?;
-    let mut digest = Vec::new(rt.alloc());
-    hex::push_bytes(&mut digest, digits)?;
+    let digest = hex::bytes_of(rt.alloc(), digits)?;
     ensure!(digest.len() == 32, "not the 64 digits of a digest");
     Ok((digest, name))
 }

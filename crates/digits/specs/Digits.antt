@@ -32,6 +32,10 @@ value_of Either c = option_or (low_value c) (capital_value c)
 abbrev pub value_or_zero : Letters → ℕ → ℕ
 value_or_zero letters c = unwrap_or (value_of letters c) 0
 
+-- the same where the letters of either case are digits
+abbrev pub digit_value : ℕ → ℕ
+digit_value c = value_or_zero Either c
+
 -- what spoils digits, by its place: the first byte that is none, or the end where their count is odd
 abbrev pub bad_hex : Letters → List ℕ → Option ℕ
 bad_hex letters digits = option_or (position (λ c. is_none (value_of letters c)) digits) (cond (length digits % 2 == 1) (Some (length digits)) None)

@@ -2,7 +2,7 @@
 ghost use Rattle.std.specs.Prelude.{◌≡◌, IfOk};
 ghost use Rattle.digits.specs.Pairs.{unhex_by, unhex, laid, DigitsReadBack};
 
-use crate::single::{Letters, value_or_zero};
+use crate::single::{Letters, value_by};
 use std::alloc::{AllocError, Global};
 
 // Writes the bytes of the digits over the front of a buffer, as many as it has room for. A byte that is no digit counts as 0, and a last digit without a second one as nothing.
@@ -13,7 +13,7 @@ pub fn decode_by(letters: Letters, digits: &[u8], out: &mut [u8])
     let n = pairs.len().min(out.len());
     // Of what an `iter_mut` that is zipped leaves, nothing is known.
     for (i, [high, low]) in pairs[..n].iter().enumerate() {
-        out[i] = 16 * value_or_zero(letters, *high) + value_or_zero(letters, *low);
+        out[i] = 16 * value_by(letters, *high) + value_by(letters, *low);
     }
 }
 

@@ -1,6 +1,6 @@
 // Single digits.
 ghost use Rattle.std.specs.Prelude.{◌≡◌, ◌%◌, ◌<◌, IfSome, is_none, position};
-ghost use Rattle.digits.specs.Digits.{low_value, capital_value, value_of, value_or_zero, hex_digit, bad_hex};
+ghost use Rattle.digits.specs.Digits.{low_value, capital_value, value_of, value_or_zero, digit_value, hex_digit, bad_hex};
 
 // Which letters are digits: a to f alone, or A to F too. A value, since a type parameter in its place would take from callers the choice at run time. It stands beside the digits and not in a struct with them: half of the calls have no letters.
 #[derive(Clone, Copy, Debug, PartialEq, Eq)]
@@ -42,11 +42,19 @@ pub fn hex_value(letters: Letters, c: u8) -> Option<u8>
 }
 
 // The value of a digit, and 0 of any other byte.
-pub(crate) fn value_or_zero(letters: Letters, c: u8) -> u8
+pub(crate) fn value_by(letters: Letters, c: u8) -> u8
     ensures value { result ≡ value_or_zero letters c }
     ensures small { result < 16 }
 {
     hex_value(letters, c).unwrap_or(0)
+}
+
+// The same where the letters of either case are digits.
+pub fn value_or_zero(c: u8) -> u8
+    ensures value { result ≡ digit_value c }
+    ensures small { result < 16 }
+{
+    value_by(Letters::Either, c)
 }
 
 // The place of the first byte that is no digit.

@@ -1,4 +1,8 @@
 // Which work is done, and on what.
+ghost use Rattle.std.specs.Prelude.{◌≡◌};
+ghost use Rattle.duplex.specs.State.{zeros};
+ghost use Rattle.load.specs.Chains.{chained};
+
 use crate::work::{Work, repeat};
 use crate::works::{Digesting, Passing, Sealing, Squeezing, Stepping, Writing};
 use anyhow::ensure;
@@ -32,6 +36,18 @@ pub(crate) struct Load {
     pub(crate) count: u32,
 }
 
+// So many steps from zero, each with the reading of the one before as a full block: the last reading.
+fn chain<E: Engine>(count: u32) -> u32
+    ensures { result ≡ chained zeros 0 count }
+{
+    let mut work = Stepping {
+        engine: E::new(),
+        word: 0,
+    };
+    repeat(&mut work, &[], &mut [], count);
+    work.word
+}
+
 impl Load {
     // Does work on a text of so many bytes and a buffer of so many, and gives the buffer.
     fn done<W: Work>(self, work: &mut W, text: usize, room: usize) -> anyhow::Result<Vec<u8>> {
@@ -42,12 +58,7 @@ impl Load {
     }
 
     fn step<E: Engine>(self) -> anyhow::Result<Vec<u8>> {
-        let mut work = Stepping {
-            engine: E::new(),
-            word: 0,
-        };
-        repeat(&mut work, &[], &mut [], self.count);
-        Ok(work.word.to_le_bytes().to_vec(self.heap)?)
+        Ok(chain::<E>(self.count).to_le_bytes().to_vec(self.heap)?)
     }
 
     fn digest<E: Engine>(self, size: usize) -> anyhow::Result<Vec<u8>> {

@@ -1,3 +1,4 @@
 pub mod Powers
+pub mod Stretch
 pub mod Meaning
 pub mod Rows

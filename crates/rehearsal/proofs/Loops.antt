@@ -17,7 +17,7 @@ module _ {X : Type 0} (Step : Standing → X → X → Standing → Type 0) wher
       let so : take (i + 1) (set xs i y) ++ ys ≡ take i xs ++ (y ∷ ys) = ap (λ (z : List X). z ++ ys) (take_more_set xs i y h) ∙ append_assoc (take i xs) (y ∷ []) ys in
       rw so (inv (y ∷ ys) last (rw todo (Run.next one (rw left at rest))))
 
-  pub going_ends : {start m : Standing} {all : List X} (xs : List X) (i : ℕ) → length xs ≤ i → Goes start all m xs i → Run Step start all xs m
-  going_ends {start} {m} {all} xs i h inv =
+  pub going_ends : {start m : Standing} {all before after : List X} (xs : List X) (i : ℕ) → length xs ≤ i → all ≡ before → after ≡ xs → Goes start all m xs i → Run Step start before after m
+  going_ends {start} {m} {all} xs i h from to inv =
       let done : take i xs ++ [] ≡ xs = append-nil (take i xs) ∙ take_all i xs h in
-      rw done at (inv [] m (rw (drop_all i xs h) Run.ends))
+      rw (← from, to) (rw done at (inv [] m (rw (drop_all i xs h) Run.ends)))

@@ -107,6 +107,8 @@ pub struct Courier<'a> {
     // the frames written so far, and how many of them have left the panel
     frames: Vec<&'a [u8]>,
     left: usize,
+    // the call by which the head was handed bytes last: a search for it would take as long as all calls
+    handed: Option<usize>,
     calls: Vec<ReceivingCall>,
     notes: Vec<Note>,
 }
@@ -118,6 +120,7 @@ impl<'a> Courier<'a> {
             orders: orders.iter(),
             frames: Vec::new(heap),
             left: 0,
+            handed: None,
             calls: Vec::new(heap),
             notes: Vec::new(heap),
         }
@@ -138,6 +141,7 @@ impl<'a> Courier<'a> {
 
     // Hands bytes to the head.
     fn offer(&mut self, line: usize, parcel: Parcel, bytes: Vec<u8>) -> Result<(), Trouble> {
+        self.handed = Some(self.calls.len());
         self.calls.push(processing(self.heap, bytes, text_room())?)?;
         self.note(line, Event::Head(Some(parcel)))
     }
@@ -156,8 +160,9 @@ impl<'a> Courier<'a> {
     }
 
     fn repeat(&mut self, at: Place) -> Result<(), Trouble> {
-        let last = self.calls.iter().rev().find_map(handed_bytes);
-        let bytes = last.ok_or(Fault::new(at.column, Reason::NothingHanded))?;
+        let last = self.handed.and_then(|call| self.calls.get(call));
+        let bytes = last.and_then(handed_bytes);
+        let bytes = bytes.ok_or(Fault::new(at.column, Reason::NothingHanded))?;
         let bytes = bytes.clone()?;
         self.offer(at.line, Parcel::Again, bytes)
     }

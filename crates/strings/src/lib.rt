@@ -40,6 +40,7 @@ impl<E: Engine> Duplex<E> {
     }
 
     // Absorbs a keyed string: four bytes a step, and a last step with the 0 to 3 bytes that are left.
+    #[tactic(auto, using(crate::proofs::Blocks::absorbed_cut, crate::proofs::Blocks::steps_done, std::proofs::lemmas::List::take_all))]
     pub fn absorb(&mut self, text: &[u8])
         ensures { E.bits self.new.engine ≡ absorbed (E.bits self.old.engine) text.now }
     {
@@ -59,6 +60,7 @@ impl<E: Engine> Duplex<E> {
     }
 
     // Absorbs the next bytes of an unkeyed string that goes on: a byte a step, each followed by an empty one.
+    #[tactic(auto, using(crate::proofs::Readings::appended_next, crate::proofs::Readings::appended_done, crate::proofs::Readings::blanked_once))]
     pub fn append_unkeyed(&mut self, bytes: &[u8])
         ensures { E.bits self.new.engine ≡ appended (E.bits self.old.engine) bytes.now }
     {
@@ -123,7 +125,8 @@ impl<E: Engine> Duplex<E> {
         word.to_le_bytes()
     }
 
-    // Encrypts or decrypts in place. It goes by places, as `squeeze` does.
+    // Encrypts or decrypts in place. It goes by places, as `squeeze` does. It stays a call of its own, since inlined it would add its words to the stack of whoever seals.
+    #[inline(never)]
     fn crypt<C: Cipher>(&mut self, text: &mut [u8])
         ensures text { text.new ≡ sums C.rule (E.bits self.old.engine) (blocks text.old) }
         ensures moved { E.bits self.new.engine ≡ ends C.rule (E.bits self.old.engine) (blocks text.old) }

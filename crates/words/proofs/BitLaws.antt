@@ -59,6 +59,20 @@ single_other b q w j h l ne =
     shl_high b q w j (j - q) (omega arith) l ∙ bit_past b (j - q) (omega (arith, pow_mono {i = 1} {j = j - q} one)))
     (cases_lt j q)
 
+-- a word with one bit more, at a place from which on it is zero
+abbrev pub with_bit : ℕ → ℕ → ℕ → ℕ
+with_bit word b j = bit_or word (b * 2 ^ j % 2 ^ 32)
+
+module _ (word b j : ℕ) (hb : b < 2) (hj : j < 32) where
+  pub bit_below : (m v : ℕ) → m < j → bit word m ≡ v → bit (with_bit word b j) m ≡ v
+  bit_below m v l e = or_first word _ m v e (shl_low b j 32 m l (omega arith))
+
+  pub bit_here : bit word j ≡ 0 → bit (with_bit word b j) j ≡ b
+  bit_here z = or_second word _ j b z (single_here b j 32 hb hj)
+
+  pub bit_above : (m : ℕ) → j < m → m < 32 → bit word m ≡ 0 → bit (with_bit word b j) m ≡ 0
+  bit_above m l h z = or_first word _ m 0 z (single_other b j 32 m hb h (λ e. omega arith))
+
 -- what holds of 0 and of 1 holds of a bit
 pub two_cases : (P : ℕ → Type 0) → P 0 → P 1 → (b : ℕ) → b < 2 → P b
 two_cases P p q zero h = p

@@ -15,8 +15,8 @@ loop-i-preserved c =
     let fits = c.min-n.ensures in
     let ps = c.as_chunks.result.0.now in
     let n = c.min-n.result in
-    let high = c.value_or_zero.ensures.value ∙ digit_at letters xs ps n i 0 (2 * i) pairs.front (omega arith) (omega arith) (omega arith) (omega arith) in
-    let low = c.value_or_zero-in-loop-i.ensures.value ∙ digit_at letters xs ps n i 1 (2 * i + 1) pairs.front (omega arith) (omega arith) (omega arith) (omega arith) in
+    let high = c.value_by.ensures.value ∙ digit_at letters xs ps n i 0 (2 * i) pairs.front (omega arith) (omega arith) (omega arith) (omega arith) in
+    let low = c.value_by-in-loop-i.ensures.value ∙ digit_at letters xs ps n i 1 (2 * i + 1) pairs.front (omega arith) (omega arith) (omega arith) (omega arith) in
     laid_more letters xs c.loop-i.out i _ (omega arith) (omega arith) (cc) ∙ c.loop-i.invariant
 
 pub returns : goal.returns

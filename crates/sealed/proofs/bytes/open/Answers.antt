@@ -1,5 +1,5 @@
 -- The file's two parts, and what the session says of what it opens.
-use Rattle.std.proofs.Common.{length, drop, Err, ap, ◌∙◌, inl, inr, arith}
+use Rattle.std.proofs.Common.{length, drop, Err, ap, ◌∙◌, inl, inr, arith, rules}
 use Rattle.std.proofs.lemmas.Result.{err_from_is_err_and}
 use Rattle.sealed.proofs.SealedBytes.{text_whole, text_refused, opened_short, opened_cut, opens_just_sealed}
 use Rattle.sealed.proofs.bytes.open.Goals as goal
@@ -22,7 +22,7 @@ returns-in_err-open c =
     let p = err_from_is_err_and c.from_residual-in_err-open.result c.from_residual-in_err-open.ensures.1 in
     let refused = text_refused _ _ c.in-Some.ciphertext.now _ _ _ (omega arith) c.in_err-open.ensures.value in
     record {
-      value = rw p.1 (inr (ap Err p.2 ∙ refused ∙ opened_cut _ _ file _ _ _ (omega arith) c.begin-session.ensures cut.0 cut.1));
+      value = rw p.1 (inr (ap Err p.2 ∙ refused ∙ opened_cut _ _ file _ _ _ (omega arith) c.begin-session.ensures cut.0 (search rules)));
       only = opens_just_sealed _ _ file;
     }
 
@@ -35,6 +35,6 @@ returns c =
     let room = c.as_mut_slice.ensures.len in
     let whole = text_whole _ _ c.in-Some.ciphertext.now _ _ out (drop (length out) c.in_ok-text.text.items) _ _ (omega arith) made c.in_ok-open.ensures.value c.in_ok-open.ensures.out in
     record {
-      value = whole ∙ opened_cut _ _ file _ _ _ (omega arith) c.begin-session.ensures cut.0 cut.1;
+      value = whole ∙ opened_cut _ _ file _ _ _ (omega arith) c.begin-session.ensures cut.0 (search rules);
       only = opens_just_sealed _ _ file;
     }
