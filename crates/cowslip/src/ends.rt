@@ -76,7 +76,7 @@ pub unsafe extern "C" fn cowslip_sender_write(
     ensures exact { WritesFrame end.old kind text.now out.old result end.new out.new }
     ensures only { OnlyThere end.old kind text.now out.old result }
 {
-    report(write(end, kind, text, out), told)
+    write_and_report(end, kind, text, out, told)
 }
 
 // Takes a frame: its text to the front of `text`. It cannot know whether the memory came from a beginning, or has a copy.
@@ -94,7 +94,7 @@ pub unsafe extern "C" fn cowslip_receiver_take(
     ensures exact { TakesFrame end.old frame.now text.old result end.new text.new }
     ensures only { OnlyWritten end.old frame.now result }
 {
-    report(take(end, frame, text), told)
+    take_and_report(end, frame, text, told)
 }
 
 fn begin<D: Direction>(key: &[u8], nonce: &[u8], memory: &mut [u8]) -> Result<Answer, CallFault>
@@ -120,6 +120,32 @@ fn tell<D: Direction>(memory: &[u8]) -> Result<Answer, CallFault>
 {
     let end = load_end::<D>(&fixed(memory, 0)?)?;
     Ok(Answer::One(end.close() as usize))
+}
+
+// What a writing returns and leaves, byte for byte: the two theorems on it follow from these clauses alone.
+fn write_and_report(
+    end: &mut [u8],
+    kind: u8,
+    text: &[u8],
+    out: &mut [u8],
+    told: &mut [usize],
+) -> u32
+    ensures answer { Reports (write_outcome end.old kind text.now (length out.old)) result told.old told.new }
+    ensures memory { end.new ≡ write_memory end.old kind text.now (length out.old) }
+    ensures out { out.new ≡ write_buffer end.old kind text.now out.old }
+    ensures next { (m : Standing) → end_for sender_mark end.old ≡ Ok m → end_for sender_mark end.new ≡ Ok (write_standing m kind text.now (length out.old)) }
+{
+    report(write(end, kind, text, out), told)
+}
+
+// What a taking returns and leaves, byte for byte: the two theorems on it follow from these clauses alone.
+fn take_and_report(end: &mut [u8], frame: &[u8], text: &mut [u8], told: &mut [usize]) -> u32
+    ensures answer { Reports (take_outcome end.old frame.now (length text.old)) result told.old told.new }
+    ensures memory { end.new ≡ take_memory end.old frame.now (length text.old) }
+    ensures text { text.new ≡ take_buffer end.old frame.now text.old }
+    ensures next { (m : Standing) → end_for receiver_mark end.old ≡ Ok m → end_for receiver_mark end.new ≡ Ok (take_standing m frame.now (take_answer m frame.now (length text.old))) }
+{
+    report(take(end, frame, text), told)
 }
 
 fn write(memory: &mut [u8], kind: u8, text: &[u8], out: &mut [u8]) -> Result<Answer, CallFault>

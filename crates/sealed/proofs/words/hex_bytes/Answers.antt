@@ -1,6 +1,7 @@
 -- Sound digits, and their bytes.
-use Rattle.std.proofs.Common.{Ok, Err, sym, ap, ◌∙◌, inr}
+use Rattle.std.proofs.Common.{rules, ◌≡◌, Ok, Err, sym, ap, ◌∙◌, inr}
 use Rattle.std.specs.Option.{option_map}
+use Rattle.std.proofs.lemmas.List.{take_rest}
 use Rattle.std.proofs.lemmas.Result.{err_from_is_err_and}
 use Rattle.digits.specs.Pairs.{unhex}
 use Rattle.sealed.specs.declared.fault.WordFault.TheVariants.{Hex}
@@ -11,7 +12,8 @@ use Rattle.sealed.proofs.words.hex_bytes.Goals as goal
 pub returns : goal.returns
 returns c =
     let digits = c.args.digits.now in
-    ap Ok c.in_ok-bytes.ensures ∙ ap (λ o. unless (option_map Hex o) (unhex digits)) (sym (sound (hex_fault digits) _ c.in_ok-check.ensures))
+    let made : c.in_ok-bytes.field-0.items ≡ unhex digits = search (rules, take_rest, c.in_ok-bytes.ensures) in
+    ap Ok made ∙ ap (λ o. unless (option_map Hex o) (unhex digits)) (sym (sound (hex_fault digits) _ c.in_ok-check.ensures))
 
 pub returns-in_err-check : goal.returns-in_err-check
 returns-in_err-check c =
